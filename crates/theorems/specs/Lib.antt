@@ -1,0 +1,2 @@
+-- The theorems' statements.
+pub mod Closure
