@@ -1,0 +1,4 @@
+pub mod Kind
+pub mod Tags
+pub mod Found
+pub mod Gather
