@@ -6,7 +6,7 @@ use native.Mathlib.Omega.{arith}
 use native.Mathlib.Nat.{add-assoc, zero-add, add-zero}
 use lib.Dec.{lit<}
 use lib.ListN.{length, take, drop, getD, length-append, length-take, length-drop, List·getD-append}
-use lib.Seq.{take-at, drop-at, drop-append-add, drop-drop, length-take-le, getD-take, getD-drop, getD-append-add}
+use lib.Seq.{take-at, drop-at, take-append-le, drop-append-le, drop-append-add, drop-drop, length-take-le, getD-take, getD-drop, getD-append-add}
 use Rattle.model.specs.Bytes.{Bytes, word16, word32, be16, be32, put, over}
 
 pub length-be16 : (v : ℕ) → length (be16 v) ≡ 2
@@ -57,6 +57,14 @@ unfolding put
 put-put d a b i h =
     let e : length (take i d ++ a) ≡ i + length a = simp (length-append, length-take-le i d h) in
     put-append (take i d ++ a) d b (i + length a) e ∙ simp (append-assoc, length-append, add-assoc)
+
+-- bytes put within a run that was written over the start: the run itself has them
+pub put-within : (p d bs : List ℕ) (i : ℕ) → i + length bs ≤ length p → put (over p d) i bs ≡ over (put p i bs) d
+unfolding put over
+put-within p d bs i h =
+    let r : List ℕ = drop (length p) d in
+    let le : i ≤ length p = omega arith in
+    rw (take-append-le i p r le, drop-append-le (i + length bs) p r h, length-put p i bs h) (simp append-assoc)
 
 -- what stands at a place of the run, before it, and behind it
 pub getD-put : (d : List ℕ) (i : ℕ) (bs : List ℕ) (j : ℕ) → i ≤ length d → j < length bs → getD (put d i bs) (i + j) 0 ≡ getD bs j 0

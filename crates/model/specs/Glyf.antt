@@ -1,4 +1,5 @@
 -- glyf, loca and head. The width of a loca entry is a parameter: nothing is said twice for 2 and 4 bytes.
+use mathlib.Core.Bool.{Bool, true, false}
 use mathlib.Core.List.{List, [], _∷_, _++_, map}
 use Prim.Native.Nat.{ℕ, suc, _+_, _*_, _-_, _/_, min}
 use lib.Dec.{leb, eqb}
@@ -9,6 +10,11 @@ use Rattle.model.specs.Bytes.{Bytes, word16, word32, be16, be32, part, p
 pub data Width : Type 0 where
   short : Width
   long : Width
+
+-- a width as the code carries it: is it long
+abbrev pub width : Bool → Width
+width true = long
+width false = short
 
 -- "entries are 4 bytes (long) if head's word at 50 isn't zero, else 2"
 abbrev pub widthOf : Bytes → Width

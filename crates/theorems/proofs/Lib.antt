@@ -3,3 +3,4 @@ pub mod Renumber
 pub mod Rosters
 pub mod Turns
 pub mod Refusals
+pub mod Count

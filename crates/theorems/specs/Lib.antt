@@ -1,2 +1,3 @@
 -- The theorems' statements.
 pub mod Closure
+pub mod Count
