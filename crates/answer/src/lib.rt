@@ -5,3 +5,10 @@ pub enum Size {
     Bytes(usize),
     No(u32),
 }
+
+// The public call's answer: a font of so many glyphs and bytes; a refusal; or the length that the output lacks (refusal 6).
+pub enum Answer {
+    Font { kept: usize, length: usize },
+    No(u32),
+    Short(usize),
+}

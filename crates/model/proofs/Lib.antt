@@ -14,3 +14,7 @@ pub mod Places
 pub mod Outlines
 pub mod Least
 pub mod Closure
+pub mod Puts
+pub mod Words
+pub mod Must
+pub mod Samples

@@ -5,7 +5,7 @@ use mathlib.Core.List.{List, [], _∷_, map}
 use Prim.Native.Nat.{ℕ, zero, suc, _<_}
 use native.Mathlib.Omega.{arith}
 use lib.ListN.{length, getD}
-use Rattle.model.specs.Res.{Res, refuse, ok, pick, both, need, each, _>>=_, _>>_}
+use Rattle.model.specs.Res.{Res, refuse, ok, pick, both, need, mapRes, each, _>>=_, _>>_}
 
 -- forwards
 pub need-ok : {A : Type 0} (k : ℕ) (t : Bool) (r : Res A) {s : Res A} → t ≡ true → r ≡ s → (need k t >> r) ≡ s
@@ -86,3 +86,8 @@ each-known n f g (x ∷ xs) u h = bind-ok _ _ (h x (u .0)) (bind-ok _ _ (each-kn
 pub each-map : {A B : Type 0} (f : A → Res B) (g : ℕ → A) (xs : List ℕ) → each f (map g xs) ≡ each (λ j. f (g j)) xs
 each-map f g [] = refl
 each-map f g (x ∷ xs) = ap (λ m. f (g x) >>= λ y. m >>= λ ys. ok (y ∷ ys)) (each-map f g xs)
+
+-- from a success of `mapRes`
+pub map-inv : {A B : Type 0} (f : A → B) (m : Res A) (b : B) → mapRes f m ≡ ok b → (a : A) × (m ≡ ok a) × (f a ≡ b)
+map-inv f (refuse k) b e = ok-refuse (sym e)
+map-inv f (ok a) b e = (a, refl, ok-inj e)

@@ -11,3 +11,4 @@ pub mod Post
 pub mod File
 pub mod Cut
 pub mod Call
+pub mod Samples

@@ -1,6 +1,28 @@
--- The theorems' proofs, a file for each argument.
+-- The proofs, a file an argument.
+pub mod OneAnswer
+pub mod Directory
+pub mod ReadBack
+pub mod Records
+pub mod Outlines
+pub mod Loca
+pub mod Metrics
+pub mod Name
+pub mod Post
+pub mod Head
+pub mod Chosen
+pub mod Pieces
+pub mod Cut
+pub mod TablesTwice
+pub mod Premises
+pub mod Own
+pub mod GivesBack
+pub mod Steps
+pub mod Lent
+pub mod Calls
+pub mod Twice
+pub mod Refusals
 pub mod Renumber
 pub mod Rosters
 pub mod Turns
-pub mod Refusals
+pub mod WalkRefusals
 pub mod Count

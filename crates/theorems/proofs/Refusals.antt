@@ -1,139 +1,223 @@
--- Where the walk stops, the glyph in hand is needed: so a refusal has one of the stated reasons. A roster leaves no room for any of them.
-use Prim.Native.Nat.{ℕ, _≤_, _<_}
-use mathlib.Core.Bool.{Bool, true, false, not}
-use mathlib.Core.List.{List, [], _∷_, _++_, reverse}
-use mathlib.Core.Logic.{_⊎_, inl, inr, ⊎-elim}
+-- The call refuses where its first failing step does: forwards a failing step's number is carried to the answer, backwards a refusal is traced to its step.
 use mathlib.Core.Path.{_≡_, refl, sym, ap, _∙_, subst}
+use mathlib.Core.Bool.{Bool, true, false}
+use mathlib.Core.Option.{Option, none, some}
+use mathlib.Core.List.{List}
+use mathlib.Core.Logic.{inl, inr}
+use Prim.Native.Nat.{ℕ, _*_, _≤_, _<_}
 use native.Mathlib.Omega.{arith}
-use lib.Dec.{leb, eqb}
-use lib.ListN.{length, length-append}
-use borrow.Author.Tests.{leb-true, eqb-true, eq-eqb}
-use Rattle.model.specs.Res.{refuse, ok}
-use Rattle.model.specs.Bytes.{member}
-use Rattle.model.specs.Font.{Tables}
-use Rattle.model.specs.Walk.{Walk, going, kept, refused, numbered, full, run, seed, begin, ended, most, walk}
-use Rattle.model.specs.Cut.{count, partsOf, turns, closure}
-use Rattle.model.proofs.Res.{both-true, ok-refuse}
-use Rattle.model.proofs.Members.{In, by, clash, in-here, in-there, in-cons, in-one, in-eq, in-append, numbered-cases}
-use Rattle.model.proofs.Outlines.{parts-yield}
-use Rattle.model.proofs.Thin.{without, Done, run-done}
-use Rattle.model.proofs.Start.{Once, once-snoc, once-numbered, Started, begin-cases}
-use Rattle.model.proofs.Least.{Keeps, End, ends, AllIn, all-turn, all-start}
-use Rattle.model.proofs.Closure.{closure-ends, closure-roster}
-use Rattle.theorems.specs.Closure.{Needed, zeroth, asked, Unreadable, none, outside, outline, TooMany, Refused, WalkRefuses}
-use Rattle.theorems.proofs.Rosters.{needed-shut, roster-least}
+use lib.Dec.{T, leb, leb→le}
+use lib.ListN.{length}
+use borrow.Author.Tests.{lt-leb, leb-true, leb-false}
+use Rattle.model.specs.Res.{Res, refuse, ok, each, _>>=_}
+use Rattle.model.specs.Bytes.{Bytes, place}
+use Rattle.model.proofs.Res.{Bound, bind-ok, bind-inv, ok-refuse}
+use Rattle.model.specs.Font.{Entry, Tables, faceStart, directory, usable, read}
+use Rattle.model.specs.Metrics.{metrics}
+use Rattle.model.specs.Name.{cutName}
+use Rattle.model.specs.Post.{cutPost}
+use Rattle.model.specs.File.{entries, file}
+use Rattle.model.specs.Cut.{count, closure, pieceOf, optional, rewrite, cutTables}
+use Rattle.model.specs.Call.{Input, Answer, Made, ready, made, last, delivered, answer}
+use Rattle.model.proofs.Closure.{pieces-known}
+use Rattle.theorems.specs.Closure.{Refused}
+use Rattle.theorems.specs.Refusals.{KindFails, under4, otto, unknown, missing, past, faceOtto, faceUnknown, TablesFail, noGlyf, noOther, MetricsFail, noCount, lastOut, glyphOut, NameFails, under2, rowsCut, storageCut, stringOut, storageFull, PostFails, postUnder4, arrayCut, noIndex, indexOver, Refuses, atKind, atDirectory, atTables, atScratch, atWalk, atMetrics, atName, atPost, atFile, atOutput, Succeeds, Refusals}
+use Rattle.theorems.proofs.WalkRefusals.{walk-refuses}
+use Rattle.theorems.proofs.Steps.{stop, bind-stop, tested, bound, kind-exactly, directory-says, directory-given, tables-exactly, metrics-exactly, name-exactly, post-exactly}
 
--- no more different ids than there are to take them from
-in-without : (x y : ℕ) (r : List ℕ) → eqb x y ≡ false → In x r → In x (without y r)
-in-without x y [] e m = m
-in-without x y (z ∷ r) e m =
-    by (eqb z y)
-    (λ k. rw k (in-without x y r e (⊎-elim (λ q. clash (subst (λ (t : ℕ). eqb t y ≡ true) (sym q) k) e) (λ q. q) (in-cons x z r m))))
-    (λ k. rw k (⊎-elim (λ q. in-eq (z ∷ without y r) q (in-here z (without y r))) (λ q. in-there x z (without y r) (in-without x y r e q)) (in-cons x z r m)))
+-- an optional table refuses if it is there and does
+optional-given : (f : Bytes → Res Bytes) (o : Option Bytes) (b : Bytes) (k : ℕ) → o ≡ some b → f b ≡ refuse k → optional f o ≡ refuse k
+optional-given f o b k e r = ap (optional f) e ∙ bind-stop (f b) _ k r
 
-length-without : (y : ℕ) (r : List ℕ) → length (without y r) ≤ length r
-length-without y [] = omega arith
-length-without y (z ∷ r) = by (eqb z y) (λ k. rw k (omega (arith, length-without y r))) (λ k. rw k (omega (arith, length-without y r)))
+optional-says : (F : Type 0) (f : Bytes → Res Bytes) (o : Option Bytes) (k : ℕ) → optional f o ≡ refuse k → ((b : Bytes) → o ≡ some b → f b ≡ refuse k → F) → F
+optional-says F f none k e g = ok-refuse e
+optional-says F f (some b) k e g = bound F (f b) _ k e (g b refl) (λ _ _ d. ok-refuse d)
 
-shorter : (y : ℕ) (r : List ℕ) → In y r → length (without y r) < length r
-shorter y [] m = clash m refl
-shorter y (z ∷ r) m =
-    by (eqb z y)
-    (λ k. rw k (omega (arith, length-without y r)))
-    (λ k. rw k (omega (arith, shorter y r (⊎-elim (λ q. clash (subst (λ (t : ℕ). eqb t y ≡ true) q (eq-eqb y y refl)) k) (λ q. q) (in-cons y z r m)))))
+module _ (x : Input) where
+  abbrev pub whole : Res Made
+  whole = ready x >>= λ t. made t (x .ids)
 
-pigeon : (l r : List ℕ) → Once l → ((x : ℕ) → In x l → In x r) → length l ≤ length r
-pigeon [] r o h = omega arith
-pigeon (x ∷ l) r o h =
-    omega (arith, shorter x r (h x (in-here x l)), pigeon l (without x r) (o .1) (λ y m. in-without y x r (other y m) (h y (in-there y x l m))))
-  where
-    other : (y : ℕ) → In y l → eqb y x ≡ false
-    other y m = by (eqb y x) (λ e. clash (in-eq l (sym (eqb-true y x e)) m) (o .0)) (λ e. e)
+  -- steps 1 to 3
+  read-says : (k : ℕ) → read (x .font) (x .index) ≡ refuse k → Refuses x k
+  unfolding read
+  read-says k e =
+      bound (Refuses x k) (faceStart (x .font) (x .index)) _ k e (λ d. atKind k (kind-exactly (x .font) (x .index) .says k d)) (λ at s d.
+      bound (Refuses x k) (directory (x .font) at) _ k d
+      (λ d. let q = directory-says (x .font) at k d in subst (Refuses x) (sym (q .0)) (atDirectory at s (q .1)))
+      (λ rs r d. atTables k at rs s r (tables-exactly (usable (x .font) rs) .says k d)))
 
-ended-refused : (w : Walk) (k : ℕ) → Done w → ended w ≡ refuse k → w ≡ refused k
-ended-refused (going r st) k d e = absurd d
-ended-refused (kept r) k d e = ok-refuse e
-ended-refused (refused j) k d e = ap refused (cc)
+  -- steps 5 to 8
+  cut-says : (t : Tables) → ready x ≡ ok t → (k : ℕ) → cutTables t (x .ids) ≡ refuse k → Refuses x k
+  unfolding cutTables rewrite
+  cut-says t p k e =
+      bound (Refuses x k) (closure t (x .ids)) _ k e (atWalk k t p) (λ r w d.
+      bound (Refuses x k) (each (pieceOf t (place r)) r) _ k d (λ d. ok-refuse (sym (pieces-known t (x .ids) r w .1) ∙ d)) (λ bs _ d.
+      bound (Refuses x k) (metrics (t .hhea) (t .hmtx) r) _ k d (λ d. atMetrics k t r p w (metrics-exactly (t .hhea) (t .hmtx) r .says k d)) (λ ms m d.
+      bound (Refuses x k) (optional cutName (t .name)) _ k d
+      (λ d. optional-says (Refuses x k) cutName (t .name) k d (λ b is d. atName k t r ms b p w m is (name-exactly b .says k d))) (λ n i d.
+      bound (Refuses x k) (optional (λ b. cutPost b r) (t .post)) _ k d
+      (λ d. optional-says (Refuses x k) (λ b. cutPost b r) (t .post) k d (λ b is d. atPost k t r ms n b p w m i is (post-exactly b r .says k d)))
+      (λ _ _ d. ok-refuse d)))))
 
-not-true : (b : Bool) → not b ≡ true → b ≡ false
-not-true true e = clash e refl
-not-true false e = refl
+  whole-says : (k : ℕ) → whole ≡ refuse k → Refuses x k
+  unfolding ready made
+  whole-says k e =
+      bound (Refuses x k) (ready x) _ k e
+      (λ d.
+      bound (Refuses x k) (read (x .font) (x .index)) _ k d (read-says k) (λ t r d.
+      tested (Refuses x) 8 (leb (4 * count t) (length (x .scratch))) _ k d (λ q. atScratch t r (leb-false (4 * count t) (length (x .scratch)) q)) (λ _ d. ok-refuse d)))
+      (λ t p d.
+      bound (Refuses x k) (cutTables t (x .ids)) _ k d (cut-says t p k) (λ c i d.
+      tested (Refuses x) 5 (leb (length (file (entries (c .tables)))) 4294967295) _ k d
+      (λ q. atFile t c p i (leb-false (length (file (entries (c .tables)))) 4294967295 q)) (λ _ d. ok-refuse d)))
 
-module _ (t : Tables) (qs : List ℕ) where
-  abbrev AllNeeded : List ℕ → Type 0
-  AllNeeded r = (g : ℕ) → In g r → Needed t qs g
+  -- forwards: from a step that fails to the whole
+  in-ready : (k : ℕ) → ready x ≡ refuse k → whole ≡ refuse k
+  in-ready k e = bind-stop (ready x) _ k e
 
-  too-many : (r : List ℕ) (g : ℕ) → Once r → AllNeeded r → Needed t qs g → full r g ≡ true → TooMany t qs
-  unfolding full
-  too-many r g o a n e =
-      let b = both-true (not (member g r)) (leb most (length r)) e in (
-        r ++ (g ∷ []),
-        once-snoc r g o (not-true (member g r) (b .0)),
-        omega (arith, length-append r (g ∷ []), leb-true most (length r) (b .1)),
-        λ x m. ⊎-elim (a x) (λ q. subst (Needed t qs) (sym (in-one x g q)) n) (in-append x r (g ∷ []) m),
-      )
+  in-read : (k : ℕ) → read (x .font) (x .index) ≡ refuse k → whole ≡ refuse k
+  unfolding ready
+  in-read k e = in-ready k (bind-stop (read (x .font) (x .index)) _ k e)
 
-  seed-refused : (r ps : List ℕ) (k : ℕ) → Once r → AllNeeded r → ((q : ℕ) → In q ps → In q qs) → seed (count t) r ps ≡ refused k → Refused t qs k
-  seed-refused r [] k o a h e = absurd (let z : _≡_ {A = ℕ} 0 1 = cc in omega arith)
-  seed-refused r (q ∷ ps) k o a h e =
-      by (leb (count t) q)
-      (λ l. let z : refused 3 ≡ refused k = rw l at e in inl (cc, outside q here (leb-true (count t) q l)))
-      (λ l. by (full r q)
-      (λ f. let z : refused 7 ≡ refused k = rw (l, f) at e in inr (cc, too-many r q o a (asked q here) f))
-      (λ f. seed-refused (numbered r q) ps k (once-numbered r q o)
-      (λ x m. ⊎-elim (a x) (λ d. subst (Needed t qs) (sym d) (asked q here)) (numbered-cases r q x m))
-      (λ x m. h x (in-there x q ps m)) (rw (l, f) at e)))
+  in-made : (t : Tables) (k : ℕ) → ready x ≡ ok t → made t (x .ids) ≡ refuse k → whole ≡ refuse k
+  in-made t k p e = bind-ok _ _ p e
+
+  in-cut : (t : Tables) (k : ℕ) → ready x ≡ ok t → cutTables t (x .ids) ≡ refuse k → whole ≡ refuse k
+  unfolding made
+  in-cut t k p e = in-made t k p (bind-stop (cutTables t (x .ids)) _ k e)
+
+  pub carried : (k : ℕ) → whole ≡ refuse k → answer x .refusal ≡ k
+  unfolding answer
+  carried k e = ap (λ (m : Res Made). last (length (x .out)) m .refusal) e
+
+  answer-made : (m : Made) (t : Bool) → whole ≡ ok m → leb (length (m .bytes)) (length (x .out)) ≡ t → answer x ≡ delivered t m
+  unfolding answer
+  answer-made m t e q = ap (λ (r : Res Made). last (length (x .out)) r) e ∙ ap (λ (t : Bool). delivered t m) q
+
+  given : (k : ℕ) → Refuses x k → answer x .refusal ≡ k
+  unfolding read ready made cutTables rewrite
+  given _ (atKind k f) = carried k (in-read k (bind-stop (faceStart (x .font) (x .index)) _ k (kind-exactly (x .font) (x .index) .given k f)))
+  given _ (atDirectory at s f) = carried 3 (in-read 3 (bind-ok _ _ s (bind-stop (directory (x .font) at) _ 3 (directory-given (x .font) at f))))
+  given _ (atTables k at rs s r f) = carried k (in-read k (bind-ok _ _ s (bind-ok _ _ r (tables-exactly (usable (x .font) rs) .given k f))))
+  given _ (atScratch t r l) =
+      carried 8 (in-ready 8 (bind-ok _ _ r (stop 8 (leb (4 * count t) (length (x .scratch))) _ (lt-leb (4 * count t) (length (x .scratch)) l))))
+  given _ (atWalk k t p e) = carried k (in-cut t k p (bind-stop (closure t (x .ids)) _ k e))
+  given _ (atMetrics k t r p w f) =
+      carried k
+      (in-cut t k p
+      (bind-ok _ _ w
+      (bind-ok _ _ (pieces-known t (x .ids) r w .1) (bind-stop (metrics (t .hhea) (t .hmtx) r) _ k (metrics-exactly (t .hhea) (t .hmtx) r .given k f)))))
+  given _ (atName k t r ms b p w m is f) =
+      carried k
+      (in-cut t k p
+      (bind-ok _ _ w
+      (bind-ok _ _ (pieces-known t (x .ids) r w .1)
+      (bind-ok _ _ m (bind-stop (optional cutName (t .name)) _ k (optional-given cutName (t .name) b k is (name-exactly b .given k f)))))))
+  given _ (atPost k t r ms n b p w m i is f) =
+      carried k
+      (in-cut t k p
+      (bind-ok _ _ w
+      (bind-ok _ _ (pieces-known t (x .ids) r w .1)
+      (bind-ok _ _ m
+      (bind-ok _ _ i
+      (bind-stop (optional (λ b. cutPost b r) (t .post)) _ k (optional-given (λ b. cutPost b r) (t .post) b k is (post-exactly b r .given k f))))))))
+  given _ (atFile t c p i l) =
+      carried 5
+      (in-made t 5 p (bind-ok _ _ i (stop 5 (leb (length (file (entries (c .tables)))) 4294967295) _ (lt-leb (length (file (entries (c .tables)))) 4294967295 l))))
+  given _ (atOutput t m p i l) =
+      ap (λ (a : Answer). a .refusal) (answer-made m false (bind-ok _ _ p i) (lt-leb (length (m .bytes)) (length (x .out)) l))
+
+  -- the call succeeds, or the output is too short, or a step before refuses
+  pub data Result : Type 0 where
+    done : (t : Tables) (m : Made) → ready x ≡ ok t → made t (x .ids) ≡ ok m → length (m .bytes) ≤ length (x .out) → answer x ≡ delivered true m → Result
+    tooLong : (t : Tables) (m : Made) → ready x ≡ ok t → made t (x .ids) ≡ ok m → length (x .out) < length (m .bytes) → answer x ≡ delivered false m → Result
+    refusal : (k : ℕ) → whole ≡ refuse k → Result
+
+  pub result : Result
+  result = go whole refl
     where
-      here : In q qs
-      here = h q (in-here q ps)
+      delivers : (m : Made) → whole ≡ ok m → Bound (ready x) (λ t. made t (x .ids)) m → (t : Bool) → leb (length (m .bytes)) (length (x .out)) ≡ t → Result
+      delivers m e s true q = done (s .value) m (s .first) (s .then) (leb-true (length (m .bytes)) (length (x .out)) q) (answer-made m true e q)
+      delivers m e s false q = tooLong (s .value) m (s .first) (s .then) (leb-false (length (m .bytes)) (length (x .out)) q) (answer-made m false e q)
 
-  begin-refused : (k : ℕ) → begin (count t) qs ≡ refused k → Refused t qs k
-  unfolding begin
-  begin-refused k e =
-      by (eqb (count t) 0)
-      (λ z. let q : refused 3 ≡ refused k = rw z at e in inl (cc, none (eqb-true (count t) 0 z)))
-      (λ z. seed-refused (0 ∷ []) qs k (refl, tt) (λ g m. subst (Needed t qs) (sym (in-one g 0 m)) zeroth) (λ q m. m) (rw z at e))
+      go : (m : Res Made) → whole ≡ m → Result
+      go (refuse k) e = refusal k e
+      go (ok m) e = delivers m e (bind-inv (ready x) (λ t. made t (x .ids)) m e) (leb (length (m .bytes)) (length (x .out))) refl
 
-  -- in each turn the roster has no repeats, and all on roster and stack is needed
-  abbrev Going : List ℕ → List ℕ → Type 0
-  Going r st = Once r × AllIn (partsOf t) (Needed t qs) (needed-shut t qs) r st
+-- every number is one of 1 to 8, and 6 is the output's alone
+abbrev pub Number : ℕ → Type 0
+Number k = (1 ≤ k) × (k ≤ 8) × (k ≡ 6 → ⊥)
 
-  going-turn : Keeps (partsOf t) Going
-  going-turn r g st cs p f q = (once-numbered r g (p .0), all-turn (partsOf t) (Needed t qs) (needed-shut t qs) r g st cs (p .1) f q)
+literal : (k : ℕ) → T (leb 1 k) → T (leb k 8) → (k ≡ 6 → ⊥) → Number k
+literal k a b c = (leb→le 1 k a, leb→le k 8 b, c)
 
-  end-refused : (k : ℕ) → End (partsOf t) Going going-turn (refused k) → Refused t qs k
-  end-refused k (r, g, st, p, why) = go why
-    where
-      here : Needed t qs g
-      here = p .1 .1 g (in-here g st)
+kind-number : (font : Bytes) (index k : ℕ) → KindFails font index k → Number k
+kind-number font index _ (under4 _) = literal 1 tt tt (omega arith)
+kind-number font index _ (otto _ _) = literal 2 tt tt (omega arith)
+kind-number font index _ (unknown _ _ _ _) = literal 1 tt tt (omega arith)
+kind-number font index _ (missing _ _) = literal 3 tt tt (omega arith)
+kind-number font index _ (past _ _ _) = literal 3 tt tt (omega arith)
+kind-number font index _ (faceOtto _ _) = literal 2 tt tt (omega arith)
+kind-number font index _ (faceUnknown _ _ _) = literal 3 tt tt (omega arith)
 
-      go : ((k ≡ 7) × (full r g ≡ true)) ⊎ (partsOf t g ≡ refuse k) → Refused t qs k
-      go (inl f) = inr (f .0, too-many r g (p .0) (p .1 .0) here (f .1))
-      go (inr f) =
-          let three = parts-yield t g .refusal k f in
-          inl (three, outline g here (f ∙ ap refuse three))
+tables-number : (es : List Entry) (k : ℕ) → TablesFail es k → Number k
+tables-number es _ (noGlyf _) = literal 2 tt tt (omega arith)
+tables-number es _ (noOther _ _ _) = literal 3 tt tt (omega arith)
 
-  run-refused : (k : ℕ) → Started (count t) qs → run (partsOf t) (turns t qs) (begin (count t) qs) ≡ refused k → Refused t qs k
-  run-refused k (inl d) e = begin-refused k (d .1 ∙ sym (run-done (partsOf t) (turns t qs) (refused (d .0)) tt) ∙ (rw (d .1) at e))
-  run-refused k (inr d) e =
-      end-refused k (subst (End (partsOf t) Going going-turn) (rw (d .1) at e)
-      (ends (partsOf t) Going going-turn (turns t qs) (d .0) (reverse (d .0))
-      (d .2 .once, all-start (partsOf t) (Needed t qs) (needed-shut t qs) (count t) qs (d .0) (d .2) zeroth asked)))
+metrics-number : (hhea hmtx : Bytes) (r : List ℕ) (k : ℕ) → MetricsFail hhea hmtx r k → Number k
+metrics-number hhea hmtx r _ (noCount _) = literal 5 tt tt (omega arith)
+metrics-number hhea hmtx r _ (lastOut _ _) = literal 3 tt tt (omega arith)
+metrics-number hhea hmtx r _ (glyphOut _ _ _ _) = literal 3 tt tt (omega arith)
 
-pub walk-refuses : WalkRefuses
-unfolding closure walk
-walk-refuses t qs =
-    record {
-      refuses = λ k e.
-          run-refused t qs k (begin-cases (count t) qs)
-          (ended-refused (run (partsOf t) (turns t qs) (begin (count t) qs)) k (closure-ends t qs .1) e);
-      succeeds = λ r e. (fine r e, few r e);
-    }
+name-number : (b : Bytes) (k : ℕ) → NameFails b k → Number k
+name-number b _ (under2 _) = literal 3 tt tt (omega arith)
+name-number b _ (rowsCut _ _ _) = literal 3 tt tt (omega arith)
+name-number b _ (storageCut _ _ _) = literal 3 tt tt (omega arith)
+name-number b _ (stringOut _ _ _ _ _ _) = literal 4 tt tt (omega arith)
+name-number b _ (storageFull _ _ _ _ _) = literal 5 tt tt (omega arith)
+
+post-number : (b : Bytes) (r : List ℕ) (k : ℕ) → PostFails b r k → Number k
+post-number b r _ (postUnder4 _) = literal 3 tt tt (omega arith)
+post-number b r _ (arrayCut _ _ _) = literal 3 tt tt (omega arith)
+post-number b r _ (noIndex _ _ _ _ _) = literal 3 tt tt (omega arith)
+post-number b r _ (indexOver _ _ _ _ _) = literal 5 tt tt (omega arith)
+
+walk-number : (t : Tables) (ids : List ℕ) (k : ℕ) → Refused t ids k → Number k
+walk-number t ids k (inl q) = subst Number (sym (q .0)) (literal 3 tt tt (omega arith))
+walk-number t ids k (inr q) = subst Number (sym (q .0)) (literal 7 tt tt (omega arith))
+
+number-of : (x : Input) (k : ℕ) → Refuses x k → whole x ≡ refuse k → Number k
+number-of x _ (atKind k f) _ = kind-number (x .font) (x .index) k f
+number-of x _ (atDirectory _ _ _) _ = literal 3 tt tt (omega arith)
+number-of x _ (atTables k _ rs _ _ f) _ = tables-number (usable (x .font) rs) k f
+number-of x _ (atScratch _ _ _) _ = literal 8 tt tt (omega arith)
+number-of x _ (atWalk k t _ e) _ = walk-number t (x .ids) k (walk-refuses t (x .ids) .refuses k e)
+number-of x _ (atMetrics k t r _ _ f) _ = metrics-number (t .hhea) (t .hmtx) r k f
+number-of x _ (atName k _ _ _ b _ _ _ _ f) _ = name-number b k f
+number-of x _ (atPost k _ r _ _ b _ _ _ _ _ f) _ = post-number b r k f
+number-of x _ (atFile _ _ _ _ _) _ = literal 5 tt tt (omega arith)
+number-of x _ (atOutput t m p i l) e = ok-refuse (sym (bind-ok _ _ p i) ∙ e)
+
+pub number : (x : Input) (k : ℕ) → whole x ≡ refuse k → Number k
+number x k e = number-of x k (whole-says x k e) e
+
+pub refusals : Refusals
+refusals x = record { given = given x; only = λ k e h. only k e h (result x); numbers = numbers (result x); success = λ e. won e (result x) }
   where
-    few : (r : List ℕ) → closure t qs ≡ ok r → TooMany t qs → ⊥
-    few r e m = omega (arith, m .2, closure-roster t qs r e .size, pigeon (m .0) r (m .1) (λ g i. roster-least t qs r e .kept g (m .3 g i)))
+    number-is : {a : Answer} → answer x ≡ a → answer x .refusal ≡ a .refusal
+    number-is q = ap (λ (a : Answer). a .refusal) q
 
-    fine : (r : List ℕ) → closure t qs ≡ ok r → Unreadable t qs → ⊥
-    fine r e (none z) = omega (arith, z, closure-roster t qs r e .within 0 (closure-roster t qs r e .zeroth))
-    fine r e (outside q m h) = omega (arith, h, closure-roster t qs r e .within q (closure-roster t qs r e .asked q m))
-    fine r e (outline g n z) = ok-refuse (sym (roster-least t qs r e .readable g (roster-least t qs r e .kept g n) .1) ∙ z)
+    only : (k : ℕ) → answer x .refusal ≡ k → 1 ≤ k → Result x → Refuses x k
+    only k e h (done t m p i l q) = absurd (omega (arith, e, number-is q))
+    only k e h (tooLong t m p i l q) = subst (Refuses x) (sym (number-is q) ∙ e) (atOutput t m p i l)
+    only k e h (refusal j q) = subst (Refuses x) (sym (carried x j q) ∙ e) (whole-says x j q)
+
+    numbers : Result x → answer x .refusal ≤ 8
+    numbers (done t m p i l q) = omega (arith, number-is q)
+    numbers (tooLong t m p i l q) = omega (arith, number-is q)
+    numbers (refusal k q) = omega (arith, carried x k q, number x k q .1)
+
+    won : answer x .refusal ≡ 0 → Result x → Succeeds x
+    won e (done t m p i l q) = record { tables = t; result = m; passed = p; cut = i; room = l }
+    won e (tooLong t m p i l q) = absurd (omega (arith, e, number-is q))
+    won e (refusal k q) = absurd (omega (arith, e, carried x k q, number x k q .0))
