@@ -18,3 +18,4 @@ pub mod Puts
 pub mod Words
 pub mod Must
 pub mod Samples
+pub mod Chosen

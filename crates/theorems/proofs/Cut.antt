@@ -18,13 +18,13 @@ use Rattle.model.specs.Metrics.{Metric, newCount, newHmtx}
 use Rattle.model.specs.Name.{cutName}
 use Rattle.model.specs.Post.{cutPost}
 use Rattle.model.specs.Cut.{outlineOf, pieceOf, closure, newMaxp, optional, newTables, CutFont, rewrite, cutTables}
-use Rattle.model.proofs.Members.{In, in-here, in-there}
+use Rattle.model.proofs.Members.{In, in-here, in-there, in-under, under-in}
 use Rattle.model.proofs.Start.{Once}
 use Rattle.model.proofs.Places.{get-place, place-low}
 use Rattle.model.proofs.Closure.{closure-roster}
 use Rattle.theorems.specs.Twice.{AreBytes, NoneMissing}
 use Rattle.theorems.proofs.Renumber.{walk-twice}
-use Rattle.theorems.proofs.Chosen.{in-under, under-in, get-inj, place-map, sum-chosen}
+use Rattle.model.proofs.Chosen.{get-inj, place-map, sum-chosen}
 use Rattle.theorems.proofs.Outlines.{length-renumber, length-pad2}
 use Rattle.theorems.proofs.Metrics.{metrics-direct, metrics-again, hhea-twice}
 use Rattle.theorems.proofs.Name.{name-twice}

@@ -15,7 +15,8 @@ use Rattle.model.specs.Call.{Input, Answer, Made, answer, outFrom, outAfter, pl
 use Rattle.model.proofs.Res.{bind-ok}
 use Rattle.model.proofs.Closure.{closure-roster}
 use Rattle.theorems.specs.GivesBack.{Success, Refusal, Leaves, success, early, late, GivesBack}
-use Rattle.theorems.proofs.Chosen.{in-under, pigeons}
+use Rattle.model.proofs.Chosen.{pigeons}
+use Rattle.model.proofs.Members.{in-under}
 use Rattle.theorems.proofs.Pieces.{cut-inv}
 use Rattle.theorems.proofs.Refusals.{whole, Result, done, tooLong, refusal, result, number}
 use Rattle.theorems.proofs.Calls.{out-ok, scratch-ok, madeOf, Won, won}

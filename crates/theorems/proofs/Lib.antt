@@ -9,7 +9,6 @@ pub mod Metrics
 pub mod Name
 pub mod Post
 pub mod Head
-pub mod Chosen
 pub mod Pieces
 pub mod Cut
 pub mod TablesTwice

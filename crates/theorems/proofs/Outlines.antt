@@ -16,7 +16,7 @@ use Rattle.model.proofs.Words.{word16-take}
 use Rattle.model.specs.Outline.{Outline, empty, simple, composite, idOf, records, outline, components, renumberRecord, renumber, written}
 use Rattle.model.specs.Glyf.{Width, short, long, padded}
 use Rattle.theorems.specs.Outlines.{RenumberTwice}
-use Rattle.theorems.proofs.Chosen.{all-under}
+use Rattle.model.proofs.Chosen.{all-under}
 use Rattle.theorems.proofs.Records.{Chain, keeps, Chained, chain-back, chained, keeps-renumber, renumbers}
 
 -- What the reader accepts in a font of n glyphs

@@ -26,7 +26,7 @@ use Rattle.theorems.specs.Closure.{Copied, Closed, component}
 use Rattle.theorems.specs.ReadBack.{withHead}
 use Rattle.theorems.specs.Outlines.{NewOutline, NewOutlines}
 use Rattle.theorems.proofs.Rosters.{roster-least}
-use Rattle.theorems.proofs.Chosen.{under-map}
+use Rattle.model.proofs.Chosen.{under-map}
 use Rattle.theorems.proofs.Outlines.{Again, again}
 use Rattle.theorems.proofs.Loca.{Room, glyphs-back, glyph-back}
 use Rattle.theorems.proofs.Head.{width-new, width-back}

@@ -1,7 +1,7 @@
 -- Each table's own file has the argument; here are the statements' words.
 use mathlib.Core.Path.{refl, sym, _∙_}
 use Rattle.theorems.specs.TablesTwice.{WidthBack, HeadTwice, HheaTwice, MaxpTwice, MetricsTwice, NameTwice, PostTwice}
-use Rattle.theorems.proofs.Chosen.{all-under}
+use Rattle.model.proofs.Chosen.{all-under}
 use Rattle.theorems.proofs.Head.{width-back, head-twice}
 use Rattle.theorems.proofs.Metrics.{metrics-again, metrics-direct, hhea-twice}
 use Rattle.theorems.proofs.Name.{name-twice}

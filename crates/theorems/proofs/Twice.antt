@@ -22,7 +22,7 @@ use Rattle.model.proofs.Members.{In, in-eq, by, clash}
 use Rattle.model.proofs.Places.{place-low, map-back}
 use Rattle.theorems.specs.ReadBack.{asWritten}
 use Rattle.theorems.specs.Twice.{NoneMissing, fileOf, rosterOf, FirstCut, Asked, Same, CuttingTwice, HandedBack}
-use Rattle.theorems.proofs.Chosen.{under-map}
+use Rattle.model.proofs.Chosen.{under-map}
 use Rattle.theorems.proofs.Head.{length-newHead}
 use Rattle.theorems.proofs.Lent.{FromBytes, read-inv}
 use Rattle.theorems.proofs.ReadBack.{readBack}

@@ -8,20 +8,11 @@ use lib.Dec.{ltb, eqb}
 use lib.ListN.{length, getD, set, replicate, getD-replicate}
 use lib.Seq.{getD-set-other}
 use borrow.Author.Tests.{ltb-true, eq-eqb, ne-eqb, eqb-true, eqb-false}
 use Rattle.model.specs.Bytes.{sum, place, member, all}
 use Rattle.model.proofs.Res.{Under, both-true}
 use Rattle.model.proofs.Members.{In, by, clash, in-here, in-there, in-eq}
 use Rattle.model.proofs.Start.{Once, out-of}
 use Rattle.model.proofs.Places.{place-get}
-
--- below n, as a list of facts and by membership
-pub in-under : (n : ℕ) (xs : List ℕ) → ((x : ℕ) → In x xs → x < n) → Under n xs
-in-under n [] h = tt
-in-under n (x ∷ xs) h = (h x (in-here x xs), in-under n xs (λ y m. h y (in-there y x xs m)))
-
-pub under-in : (n : ℕ) (xs : List ℕ) → Under n xs → (x : ℕ) → In x xs → x < n
-under-in n [] u x m = clash m refl
-under-in n (y ∷ xs) u x m = by (eqb x y) (λ e. omega (arith, eqb-true x y e, u .0)) (λ e. under-in n xs (u .1) x (rw e at m))
 
 pub under-map : (n : ℕ) (f : ℕ → ℕ) (xs : List ℕ) → ((x : ℕ) → In x xs → f x < n) → Under n (map f xs)
 under-map n f [] h = tt

@@ -1,0 +1,3 @@
+include!(concat!(env!("OUT_DIR"), "/lib.rs"));
+
+pub mod ask;
