@@ -19,3 +19,4 @@ pub mod Words
 pub mod Must
 pub mod Samples
 pub mod Chosen
+pub mod Outline

@@ -1,0 +1,10 @@
+pub mod Files
+pub mod Halves
+pub mod Head
+pub mod Lists
+pub mod Placing
+pub mod Readiness
+pub mod Rows
+pub mod Stand
+pub mod Tags
+pub mod Written

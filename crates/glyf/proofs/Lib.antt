@@ -1,0 +1,7 @@
+-- Laws about the kept outlines and their tables.
+pub mod Puts
+pub mod Composite
+pub mod Pieces
+pub mod Tables
+pub mod Writing
+pub mod Walked
