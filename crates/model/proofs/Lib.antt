@@ -20,3 +20,4 @@ pub mod Must
 pub mod Samples
 pub mod Chosen
 pub mod Outline
+pub mod Post

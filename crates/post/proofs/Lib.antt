@@ -1,0 +1,5 @@
+pub mod Walk
+pub mod Held
+pub mod Cut
+pub mod Grow
+pub mod Scratch
