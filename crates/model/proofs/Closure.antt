@@ -19,11 +19,11 @@ use Rattle.model.proofs.Thin.{Inside, Alike, ids, width, widths}
 use Rattle.model.proofs.Start.{walkT, thin}
 use Rattle.model.proofs.Least.{Roster, roster}
 
-few-ids : (n w : ℕ) (m : Res (List ℕ)) → Yields (Few n w) m → Few n w (ids m)
+pub few-ids : (n w : ℕ) (m : Res (List ℕ)) → Yields (Few n w) m → Few n w (ids m)
 few-ids n w (refuse k) y = (λ c m. clash m refl, omega arith)
 few-ids n w (ok cs) y = y .value cs refl
 
-widths-few : (n w : ℕ) (o : ℕ → Res (List ℕ)) → ((g : ℕ) → width (o g) ≤ w) → widths n o ≤ n * w
+pub widths-few : (n w : ℕ) (o : ℕ → Res (List ℕ)) → ((g : ℕ) → width (o g) ≤ w) → widths n o ≤ n * w
 widths-few zero w o h = omega arith
 widths-few (suc n) w o h = omega (arith, suc-mul n w, widths-few n w o h, h n)
 

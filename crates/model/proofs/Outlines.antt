@@ -12,7 +12,7 @@ use borrow.Author.Tests.{ltb-true, leb-true, lt-leb}
 use Rattle.model.specs.Res.{Res, ok, pick, need, mapRes, _>>_}
 use Rattle.model.specs.Bytes.{Bytes, word16, flag, holds}
 use Rattle.model.specs.Font.{Tables}
-use Rattle.model.specs.Glyf.{widthOf, entry, glyphBytes}
+use Rattle.model.specs.Glyf.{Width, widthOf, entry, glyphBytes}
 use Rattle.model.specs.Outline.{Outline, empty, simple, composite, recordSize, flagsOf, idOf, Records, before, lastOf, records, outline, components}
 use Rattle.model.specs.Cut.{count, outlineOf, partsOf}
 use Rattle.model.proofs.Members.{In, clash, in-cons}
@@ -56,10 +56,10 @@ records-yield n (suc turns) b =
         (subst (λ (x : ℕ). x < n) (sym (id-take size b (omega arith))) (ltb-true (idOf b) n i)) q
         (omega (arith, length-drop size b, leb-true (0 + 4) (length b) h))
 
-abbrev Parts : ℕ → ℕ → Outline → Type 0
+abbrev pub Parts : ℕ → ℕ → Outline → Type 0
 Parts n bytes o = Few n bytes (components o)
 
-outline-yield : (n : ℕ) (b : Bytes) → Yields (Parts n (length b)) (outline n b)
+pub outline-yield : (n : ℕ) (b : Bytes) → Yields (Parts n (length b)) (outline n b)
 unfolding outline
 outline-yield n [] = yields-ok (Parts n 0) empty (few-none n 0)
 outline-yield n (x ∷ xs) =
@@ -76,19 +76,19 @@ outline-yield n (x ∷ xs) =
     P = Parts n (length b)
 
 -- a glyph's bytes are a part of glyf
-bytes-yield : (t : Tables) (g : ℕ) → Yields (λ (b : Bytes). length b ≤ length (t .glyf)) (glyphBytes (widthOf (t .head)) (t .loca) (t .glyf) g)
+pub bytes-yield : (w : Width) (loca glyf : Bytes) (g : ℕ) → Yields (λ (b : Bytes). length b ≤ length glyf) (glyphBytes w loca glyf g)
 unfolding glyphBytes
-bytes-yield t g =
-    yields-need _ (leb (at g) (at (suc g))) _ (λ _. yields-need _ (leb (at (suc g)) (length (t .glyf))) _ (λ _.
-    yields-ok _ _ (omega (arith, length-take (at (suc g) - at g) (drop (at g) (t .glyf)), length-drop (at g) (t .glyf)))))
+bytes-yield w loca glyf g =
+    yields-need _ (leb (at g) (at (suc g))) _ (λ _. yields-need _ (leb (at (suc g)) (length glyf)) _ (λ _.
+    yields-ok _ _ (omega (arith, length-take (at (suc g) - at g) (drop (at g) glyf), length-drop (at g) glyf))))
   where
     at : ℕ → ℕ
-    at = entry (widthOf (t .head)) (t .loca)
+    at = entry w loca
 
 pub outlineOf-yield : (t : Tables) (g : ℕ) → Yields (λ (o : Outline). Few (count t) (length (t .glyf)) (components o)) (outlineOf t g)
 unfolding outlineOf
 outlineOf-yield t g =
-    yields-bind (λ (b : Bytes). length b ≤ length (t .glyf)) _ (glyphBytes (widthOf (t .head)) (t .loca) (t .glyf) g) _ (bytes-yield t g)
+    yields-bind (λ (b : Bytes). length b ≤ length (t .glyf)) _ (glyphBytes (widthOf (t .head)) (t .loca) (t .glyf) g) _ (bytes-yield (widthOf (t .head)) (t .loca) (t .glyf) g)
     (λ b h. yields-weaken (outline-yield (count t) b) (λ o q. (q .0, omega (arith, q .1))))
 
 pub parts-yield : (t : Tables) (g : ℕ) → Yields (Few (count t) (length (t .glyf))) (partsOf t g)

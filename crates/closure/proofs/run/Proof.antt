@@ -1,0 +1,90 @@
+-- At each turn the scratch holds a state of the walk from which going on gives the whole; a turn reads a request or numbers a glyph.
+use mathlib.Core.Path.{subst, _∙_}
+use borrow.Author.Needs.{needs}
+use Rattle.model.specs.Glyf.{width}
+use Rattle.closure.specs.Closes.{partsIn}
+use Rattle.closure.specs.Turns.{ahead, Falls, Turned}
+use Rattle.closure.proofs.Running.{Running, running-start, running-on, ran-end, ran-no}
+use Rattle.closure.proofs.run.Statement.{statement}
+use Rattle.closure.proofs.run.Tie as tie
+
+abbrev Inv-loop : tie.InvT-loop
+Inv-loop loca glyf long s₀ n count k₀ left₀ s k left = Running (partsIn (width long) n loca glyf) n s₀ count s k left
+
+abbrev μ-loop : tie.MeasureT-loop
+μ-loop loca glyf long s₀ n count k₀ left₀ s k left = ahead k left
+
+loop-holds : tie.Need-loop-holds Inv-loop μ-loop
+loop-holds c =
+    let a = c .before .before .before .args in
+    running-start (partsIn (width (a .long)) (a .n) (a .loca .now) (a .glyf .now)) (a .n) (a .s .now) (a .count) (c .before .before .before .pre .2)
+
+turn-requires : tie.Need-turn-requires Inv-loop μ-loop
+turn-requires c κs =
+    let h = c .before .before .before .before .before .pre in
+    (h .0, h .1, c .before .loop .inv .live)
+
+enum-known-t : tie.Need-enum-known-t Inv-loop μ-loop
+enum-known-t c = search needs
+
+loop-less : tie.Need-loop-less Inv-loop μ-loop
+loop-less c = subst (Falls (c .before .before .before .before .before .before .before .loop .k) (c .before .before .before .before .before .before .before .loop .left)) (c .before .t .given .1) (c .before .before .before .before .before .turn .ensures .falls)
+
+loop-again : tie.Need-loop-again Inv-loop μ-loop
+loop-again c =
+    let a = c .before .before .before .before .before .before .before .before .before .before .before .args in
+    let l = c .before .before .before .before .before .before .before .loop in
+    let t = c .before .before .before .before .before .turn in
+    let on = c .before .t .given in
+    let parts = partsIn (width (a .long)) (a .n) (a .loca .now) (a .glyf .now) in
+    let turned = subst (Turned parts (a .n) (l .s) (t .last .1 .1 .1 .0) (l .k) (l .left)) (on .1) (t .ensures) in
+    running-on parts (a .n) (a .s .now) (a .count) (l .s) (l .k) (l .left) (l .inv) (t .last .1 .1 .1 .0) (on .0 .0) (on .0 .1 .0) turned (t .kept .1 .1 .1 .0)
+
+enum-told : tie.Need-enum-told Inv-loop μ-loop
+enum-told c = search needs
+
+same-length : tie.Need-same-length Inv-loop μ-loop
+same-length c = c .before .before .before .before .turn .kept .1 .1 .1 .0 ∙ c .before .before .before .before .before .before .loop .inv .size
+
+returns : tie.Need-returns Inv-loop μ-loop
+returns c =
+    let a = c .before .before .before .before .before .before .before .before .before .before .args in
+    let l = c .before .before .before .before .before .before .loop in
+    let t = c .before .before .before .before .turn in
+    let parts = partsIn (width (a .long)) (a .n) (a .loca .now) (a .glyf .now) in
+    let turned = subst (Turned parts (a .n) (l .s) (t .last .1 .1 .1 .0) (l .k) (l .left)) (c .enum-told .given .1) (t .ensures) in
+    ran-end parts (a .n) (a .s .now) (a .count) (l .s) (l .k) (l .left) (l .inv) (t .last .1 .1 .1 .0) turned
+
+enum-known-t-2 : tie.Need-enum-known-t-2 Inv-loop μ-loop
+enum-known-t-2 c = search needs
+
+same-length-2 : tie.Need-same-length-2 Inv-loop μ-loop
+same-length-2 c = c .before .before .before .before .before .turn .kept .1 .1 .1 .0 ∙ c .before .before .before .before .before .before .before .loop .inv .size
+
+returns-2 : tie.Need-returns-2 Inv-loop μ-loop
+returns-2 c =
+    let a = c .before .before .before .before .before .before .before .before .before .before .before .args in
+    let l = c .before .before .before .before .before .before .before .loop in
+    let t = c .before .before .before .before .before .turn in
+    let no = c .before .t2 .given in
+    let parts = partsIn (width (a .long)) (a .n) (a .loca .now) (a .glyf .now) in
+    let turned = subst (Turned parts (a .n) (l .s) (t .last .1 .1 .1 .0) (l .k) (l .left)) (no .1) (t .ensures) in
+    ran-no parts (a .n) (a .s .now) (a .count) (l .s) (l .k) (l .left) (l .inv) (t .last .1 .1 .1 .0) (no .0 .0) turned
+
+pub run-spec : {M : Type 1} → statement M
+run-spec =
+    tie.close
+    (tie.spec
+    Inv-loop
+    μ-loop
+    loop-holds
+    turn-requires
+    enum-known-t
+    loop-less
+    loop-again
+    enum-told
+    same-length
+    returns
+    enum-known-t-2
+    same-length-2
+    returns-2)

@@ -1,0 +1,34 @@
+-- What the whole promises: the walk's answer, and in the scratch its roster and the new numbers.
+use mathlib.Core.Path.{_≡_}
+use mathlib.Core.List.{List}
+use Prim.Native.Nat.{ℕ, _+_, _*_, _≤_, _<_}
+use lib.ListN.{length, drop}
+use Rattle.model.specs.Res.{Res, refuse, ok, mapRes, _>>=_}
+use Rattle.model.specs.Bytes.{Bytes}
+use Rattle.model.specs.Glyf.{Width, entrySize, glyphBytes}
+use Rattle.model.specs.Outline.{outline, components}
+use Rattle.model.specs.Walk.{walk}
+use Rattle.remapper.specs.State.{Rostered}
+use Rattle.closure.specs.declared.Closed.{Closed}
+use Rattle.closure.specs.declared.Closed.the-variants.{Kept, No}
+
+-- a glyph's components, and step 5's walk, over what the code is lent (`partsOf` and `closure` of a font's tables are these)
+unfoldable pub partsIn : Width → ℕ → Bytes → Bytes → ℕ → Res (List ℕ)
+partsIn w n loca glyf g = mapRes components (glyphBytes w loca glyf g >>= λ b. outline n b)
+
+unfoldable pub walkIn : Width → ℕ → Bytes → Bytes → List ℕ → Res (List ℕ)
+walkIn w n loca glyf ids = walk (2 + length ids + n * length glyf) n (partsIn w n loca glyf) ids
+
+-- loca has the two offsets of each of the n glyphs, as n's own definition makes sure
+abbrev pub Offsets : Width → ℕ → Bytes → Type 0
+Offsets w n loca = 0 < n → entrySize w * (n + 1) ≤ length loca
+
+-- so many glyphs are kept, or the refusal
+abbrev pub closedOf : Closed → Res ℕ
+closedOf (Kept k) = ok k
+closedOf (No k) = refuse k
+
+pub record Closes (walked : Res (List ℕ)) (n : ℕ) (s s′ : List ℕ) (a : Closed) : Type 0 where
+  pub answer : closedOf a ≡ mapRes length walked
+  pub scratch : (r : List ℕ) → walked ≡ ok r → Rostered n s′ r
+  pub past : drop (4 * n) s′ ≡ drop (4 * n) s

@@ -1,0 +1,41 @@
+-- Room for 256 rows is enough where there are no more.
+use native.Mathlib.Omega.{arith}
+use Rattle.name.proofs.Strings.{roomy-rows}
+use borrow.Author.Needs.{needs}
+use Rattle.name.proofs.distinct_bytes.Statement.{statement}
+use Rattle.name.proofs.distinct_bytes.Tie as tie
+
+u16-at-requires : tie.Need-u16-at-requires
+u16-at-requires c κs = search needs
+
+slice-aggregate-distinct : tie.Need-slice-aggregate-distinct
+slice-aggregate-distinct c = search needs
+
+distinct-requires : tie.Need-distinct-requires
+distinct-requires c κs =
+    let r = c .before .before .before .before in
+    roomy-rows (r .args .name .now) 5460 256 (r .pre) (omega arith)
+
+returns : tie.Need-returns
+returns c = search needs
+
+slice-aggregate-distinct-2 : tie.Need-slice-aggregate-distinct-2
+slice-aggregate-distinct-2 c = search needs
+
+distinct-requires-2 : tie.Need-distinct-requires-2
+distinct-requires-2 c κs = search needs
+
+returns-2 : tie.Need-returns-2
+returns-2 c = search needs
+
+pub distinct-bytes-spec : {M : Type 1} → statement M
+distinct-bytes-spec =
+    tie.close
+    (tie.spec
+    u16-at-requires
+    slice-aggregate-distinct
+    distinct-requires
+    returns
+    slice-aggregate-distinct-2
+    distinct-requires-2
+    returns-2)

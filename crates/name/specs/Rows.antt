@@ -1,0 +1,131 @@
+-- The name table by row numbers, as the code goes through it. proofs/ ties each definition to `cutName`.
+use mathlib.Core.Path.{_≡_}
+use mathlib.Core.Bool.{Bool, true}
+use mathlib.Core.List.{List, [], _∷_, _++_, map}
+use Prim.Native.Nat.{ℕ, zero, suc, _+_, _*_, _≤_, _<_}
+use lib.Dec.{leb}
+use lib.ListN.{length, take, drop, getD}
+use Rattle.model.specs.Res.{Res, refuse, ok, pick, both, need, each, _>>_}
+use Rattle.model.specs.Bytes.{Bytes, word16, be16, put, part, concat, sameBytes}
+use Rattle.model.specs.Name.{NameEntry, nameRows, keptRows, nameEntry, isKept, stored?, store, newRow, newName}
+use Rattle.name.specs.declared.Found.{Found}
+use Rattle.name.specs.declared.Found.the-variants.{At, Nowhere}
+use Rattle.name.specs.declared.Counted.{Counted}
+use Rattle.name.specs.declared.Counted.the-variants.{Records, No}
+
+abbrev pub countedOf : Counted → Res ℕ
+countedOf (Records n) = ok n
+countedOf (No k) = refuse k
+
+-- row i, and where its string stands in the table
+abbrev pub rowAt : Bytes → ℕ → Bytes
+rowAt b i = part b (6 + 12 * i) 12
+
+abbrev pub stringStart : Bytes → ℕ → ℕ
+stringStart b i = word16 b 4 + word16 b (6 + 12 * i + 10)
+
+abbrev pub stringLength : Bytes → ℕ → ℕ
+stringLength b i = word16 b (6 + 12 * i + 8)
+
+unfoldable pub stringAt : Bytes → ℕ → Bytes
+stringAt b i = part b (stringStart b i) (stringLength b i)
+
+unfoldable pub keptAt : Bytes → ℕ → Bool
+keptAt b i = isKept (rowAt b i)
+
+unfoldable pub insideAt : Bytes → ℕ → Bool
+insideAt b i = both (leb (word16 b (6 + 12 * i + 10) + stringLength b i) 65535) (leb (stringStart b i + stringLength b i) (length b))
+
+unfoldable pub entryAt : Bytes → ℕ → NameEntry
+entryAt b i = record { ids = take 8 (rowAt b i); string = stringAt b i }
+
+-- the kept names of the first n rows: as the model tests them, and as entries
+unfoldable pub tested : Bytes → ℕ → Res (List NameEntry)
+tested b n = each (nameEntry (drop (word16 b 4) b)) (keptRows (nameRows n (drop 6 b)))
+
+unfoldable pub entries : Bytes → ℕ → List NameEntry
+entries b zero = []
+entries b (suc n) = entries b n ++ pick (keptAt b n) (entryAt b n ∷ []) []
+
+-- their distinct strings, and the rows where these stand first
+unfoldable pub strings : Bytes → ℕ → List Bytes
+strings b n = store [] (entries b n)
+
+unfoldable pub firstRows : Bytes → ℕ → List ℕ
+firstRows b zero = []
+firstRows b (suc n) =
+    firstRows b n ++ pick (keptAt b n) (pick (stored? (stringAt b n) (map (stringAt b) (firstRows b n))) [] (n ∷ [])) []
+
+-- "all distinct ones over 65,535 bytes: 5"
+unfoldable pub distinctBytes : Bytes → Res ℕ
+distinctBytes b = do
+  need 5 (leb (length (concat (strings b (word16 b 2)))) 65535)
+  ok (length (concat (strings b (word16 b 2))))
+
+-- a record with its new offset, those of the first n rows, and the whole table, "over 5,460 kept records: 5"
+unfoldable pub newRecord : Bytes → ℕ → ℕ → Bytes
+newRecord b i offset = part b (6 + 12 * i) 8 ++ (be16 (stringLength b i) ++ be16 offset)
+
+unfoldable pub newRecords : Bytes → ℕ → Bytes
+newRecords b n = concat (map (newRow (strings b (word16 b 2))) (entries b n))
+
+unfoldable pub newTable : Bytes → Res Bytes
+newTable b = do
+  need 5 (leb (length (concat (strings b (word16 b 2)))) 65535)
+  need 5 (leb (length (entries b (word16 b 2))) 5460)
+  ok (newName (entries b (word16 b 2)))
+
+-- the first equal string of a list, by its offset, the list itself starting at offset o
+unfoldable pub searchFrom : ℕ → Bytes → List Bytes → Found
+searchFrom o s [] = Nowhere
+searchFrom o s (x ∷ xs) = pick (sameBytes x s) (At o) (searchFrom (o + length x) s xs)
+
+-- row i and its string lie in the table
+pub record Inside (b : Bytes) (i : ℕ) : Type 0 where
+  pub row : 6 + 12 * i + 12 ≤ length b
+  pub string : stringStart b i + stringLength b i ≤ length b
+
+-- a row's string can be looked for among those of other rows
+pub record Searchable (b : Bytes) (rows : List ℕ) (i : ℕ) : Type 0 where
+  pub sought : Inside b i
+  pub among : (j : ℕ) → j < length rows → Inside b (getD rows j 0)
+  pub few : length rows ≤ 5460
+
+-- what the tests of 3 and 4 made sure of
+pub record Tested (b : Bytes) : Type 0 where
+  pub rows : 6 + 12 * word16 b 2 ≤ length b
+  pub storage : word16 b 4 ≤ length b
+  pub inside : (i : ℕ) → i < word16 b 2 → keptAt b i ≡ true → Inside b i
+
+-- after n rows: `firsts` starts with the rows of the `used` first uses, whose strings fill `end` bytes
+pub record Uses (b : Bytes) (n : ℕ) (firsts : List ℕ) (used end : ℕ) : Type 0 where
+  pub rows : take used firsts ≡ firstRows b n
+  pub room : used ≤ length firsts
+  pub bytes : end ≡ length (concat (strings b n))
+
+-- every kept row can be noted in an array of so many places
+pub record Roomy (b : Bytes) (places : ℕ) : Type 0 where
+  pub tested : Tested b
+  pub room : length (entries b (word16 b 2)) ≤ places
+  pub few : length (entries b (word16 b 2)) ≤ 5460
+
+-- a kept row's string can be noted
+pub record Notable (b : Bytes) (i : ℕ) (firsts : List ℕ) (used end : ℕ) : Type 0 where
+  pub room : Roomy b (length firsts)
+  pub row : i < word16 b 2
+  pub kept : keptAt b i ≡ true
+  pub uses : Uses b i firsts used end
+  pub small : end ≤ 65535
+
+-- the table can be written, with so many places to note first uses and so many bytes of output
+pub record Writable (b : Bytes) (places size : ℕ) : Type 0 where
+  pub room : Roomy b places
+  pub small : length (concat (strings b (word16 b 2))) ≤ 65535
+  pub fits : 6 + 12 * length (entries b (word16 b 2)) + length (concat (strings b (word16 b 2))) ≤ size
+
+-- the records are written, and the rows of all first uses noted
+pub record Recorded (b : Bytes) (firsts out out₀ : List ℕ) (kept used : ℕ) : Type 0 where
+  pub records : out ≡ put out₀ 6 (newRecords b (word16 b 2))
+  pub count : kept ≡ length (entries b (word16 b 2))
+  pub rows : take used firsts ≡ firstRows b (word16 b 2)
+  pub room : used ≤ length firsts

@@ -1,0 +1,7 @@
+-- Laws of the scratch, a file for each matter: the ring, the rows, what waits, what is numbered, the fills.
+pub mod Ring
+pub mod Rows
+pub mod Waiting
+pub mod Numbering
+pub mod Asking
+pub mod Fills

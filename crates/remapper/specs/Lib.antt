@@ -1,0 +1,3 @@
+-- What the functions do to the scratch, and what the scratch then holds.
+pub mod Scratch
+pub mod State

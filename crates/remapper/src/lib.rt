@@ -1,0 +1,176 @@
+// Who has which new number, and which components wait (the crate's remapper.rs, and its stack of glyphs): in 4n lent numbers.
+// Four rows: the roster | new number + 1 by old id, 0: none | previous | next. The links are a ring through glyph 0, which never waits, so that
+// unlinking and inserting have no branch and no top is carried; a glyph that doesn't wait is a ring of its own.
+ghost use mathlib.Core.Path.{_≡_};
+ghost use Prim.Native.Nat.{_+_, _*_, _-_, _≤_, _<_};
+ghost use lib.ListN.{length, getD, set, replicate};
+ghost use Rattle.model.specs.Bytes.{put};
+ghost use Rattle.remapper.specs.Scratch.{num, next, Linked, unlinked, inserted, moved, offered, given, taken, upTo, started};
+ghost use Rattle.remapper.specs.State.{Numbering, Asked};
+
+// How many glyphs have a number, or the refusal.
+pub enum Count {
+    Of(usize),
+    No(u32),
+}
+
+// So many glyphs can have a number: "numbering a 65,536th is 7".
+pub const MOST: usize = 65535;
+
+// The number at g of the row that starts at base.
+fn get(s: &[u16], base: usize, g: usize) -> usize
+    requires { ⌜ base + g < length (now s) ⌝ }
+    ensures { λ r. ⌜ (r ≡ getD (now (s .entry)) (base + g) 0) × (r < 65536) ⌝ }
+{
+    s[base + g] as usize
+}
+
+fn set(s: &mut [u16], base: usize, g: usize, v: usize)
+    requires { ⌜ (base + g < length (now s)) × (v < 65536) ⌝ }
+    ensures { λ _. ⌜ now (s .exit) ≡ set (now (s .entry)) (base + g) v ⌝ }
+{
+    s[base + g] = v as u16;
+}
+
+// The old id that has the number k.
+pub fn old_id(s: &[u16], k: usize) -> usize
+    requires { ⌜ k < length (now s) ⌝ }
+    ensures { λ r. ⌜ r ≡ getD (now (s .entry)) k 0 ⌝ }
+{
+    s[k] as usize
+}
+
+// The new number of an id that has one.
+pub fn new_id(s: &[u16], n: usize, g: usize) -> u16
+    requires { ⌜ (n + g < length (now s)) × (0 < num n (now s) g) ⌝ }
+    ensures { λ r. ⌜ r ≡ num n (now (s .entry)) g - 1 ⌝ }
+{
+    s[n + g] - 1
+}
+
+// The component that waits on top, or 0.
+pub fn top(s: &[u16], n: usize) -> usize
+    requires { ⌜ (n ≤ 65536) × (0 < n) × (4 * n ≤ length (now s)) ⌝ }
+    ensures { λ r. ⌜ r ≡ next n (now (s .entry)) 0 ⌝ }
+{
+    let f = 3 * n;
+    get(s, f, 0)
+}
+
+// Joins c's neighbours.
+fn unlink(s: &mut [u16], n: usize, c: usize)
+    requires { ⌜ (n ≤ 65536) × (c < n) × Linked n (now s) ⌝ }
+    ensures { λ _. ⌜ now (s .exit) ≡ unlinked n (now (s .entry)) c ⌝ }
+{
+    let p = 2 * n;
+    let f = 3 * n;
+    let u = get(s, p, c);
+    let w = get(s, f, c);
+    set(s, f, u, w);
+    set(s, p, w, u);
+}
+
+// Puts c on top: after glyph 0.
+fn insert(s: &mut [u16], n: usize, c: usize)
+    requires { ⌜ (n ≤ 65536) × (c < n) × Linked n (now s) ⌝ }
+    ensures { λ _. ⌜ now (s .exit) ≡ inserted n (now (s .entry)) c ⌝ }
+{
+    let p = 2 * n;
+    let f = 3 * n;
+    let t = get(s, f, 0);
+    set(s, f, c, t);
+    set(s, p, c, 0);
+    set(s, p, t, c);
+    set(s, f, 0, c);
+}
+
+fn move_top(s: &mut [u16], n: usize, c: usize)
+    requires { ⌜ (n ≤ 65536) × (c < n) × Linked n (now s) ⌝ }
+    ensures { λ _. ⌜ now (s .exit) ≡ moved n (now (s .entry)) c ⌝ }
+{
+    unlink(s, n, c);
+    insert(s, n, c);
+}
+
+// "push its components that are unnumbered .. A component pushed again may move to the top".
+pub fn offer(s: &mut [u16], n: usize, c: usize)
+    requires { ⌜ (n ≤ 65536) × (c < n) × Linked n (now s) ⌝ }
+    ensures { λ _. ⌜ now (s .exit) ≡ offered n (now (s .entry)) c ⌝ }
+{
+    if get(s, n, c) == 0 {
+        move_top(s, n, c);
+    }
+}
+
+// q gets the number k.
+fn give(s: &mut [u16], n: usize, q: usize, k: usize)
+    requires { ⌜ (n ≤ 65536) × (q < n) × (k < n) × (k < 65535) × (4 * n ≤ length (now s)) ⌝ }
+    ensures { λ _. ⌜ now (s .exit) ≡ given n (now (s .entry)) q k ⌝ }
+{
+    set(s, 0, k, q);
+    set(s, n, q, k + 1);
+}
+
+// The top component c leaves the ring and gets the number k.
+pub fn take_top(s: &mut [u16], n: usize, c: usize, k: usize)
+    requires { ⌜ (n ≤ 65536) × (c < n) × (k < n) × (k < 65535) × Linked n (now s) ⌝ }
+    ensures { λ _. ⌜ now (s .exit) ≡ taken n (now (s .entry)) c k ⌝ }
+{
+    unlink(s, n, c);
+    give(s, n, c, k);
+}
+
+// A request: "first appearances only; an id of n or more is 3; numbering a 65,536th, here or later, is 7".
+pub fn ask(s: &mut [u16], n: usize, q: usize, count: usize) -> Count
+    requires { ⌜ (n ≤ 65536) × Numbering n (now s) count ⌝ }
+    ensures { λ r. ⌜ Asked n (now (s .entry)) (now (s .exit)) q count r ⌝ }
+{
+    if n <= q {
+        return Count::No(3);
+    }
+    if get(s, n, q) != 0 {
+        return Count::Of(count);
+    }
+    if MOST <= count {
+        return Count::No(7);
+    }
+    give(s, n, q, count);
+    Count::Of(count + 1)
+}
+
+// So many zeros.
+pub fn zeros(s: &mut [u16], at: usize, count: usize)
+    requires { ⌜ at + count ≤ length (now s) ⌝ }
+    ensures { λ _. ⌜ now (s .exit) ≡ put (now (s .entry)) at (replicate count 0) ⌝ }
+{
+    let mut i = 0;
+    while i < count {
+        s[at + i] = 0;
+        i += 1;
+    }
+}
+
+// A row of links in which each glyph is a ring of its own.
+fn rings(s: &mut [u16], at: usize, n: usize)
+    requires { ⌜ (n ≤ 65536) × (at + n ≤ length (now s)) ⌝ }
+    ensures { λ _. ⌜ now (s .exit) ≡ put (now (s .entry)) at (upTo n) ⌝ }
+{
+    let mut g = 0;
+    while g < n {
+        s[at + g] = g as u16;
+        g += 1;
+    }
+}
+
+// "Glyph 0 gets number 0", and nothing waits.
+pub fn start(s: &mut [u16], n: usize)
+    requires { ⌜ (0 < n) × (n ≤ 65536) × (4 * n ≤ length (now s)) ⌝ }
+    ensures { λ _. ⌜ now (s .exit) ≡ started n (now (s .entry)) ⌝ }
+{
+    let p = 2 * n;
+    let f = 3 * n;
+    zeros(s, 0, p);
+    rings(s, p, n);
+    rings(s, f, n);
+    give(s, n, 0, 0);
+}
