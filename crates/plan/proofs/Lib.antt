@@ -1,0 +1,3 @@
+pub mod Rostered
+pub mod Sizes
+pub mod Planning

@@ -1,0 +1,174 @@
+-- Step 5 and the scratch: the walk's roster, and what is cleared in the end.
+use mathlib.Core.Path.{_≡_, refl, sym, ap, ap₂, _∙_, subst}
+use mathlib.Core.Bool.{Bool, true, false}
+use mathlib.Core.List.{List, [], _∷_, _++_}
+use Prim.Native.Nat.{ℕ, zero, suc, _+_, _*_, _-_, _/_, _≤_, _<_}
+use native.Mathlib.Omega.{arith}
+use native.Mathlib.Nat.{min-le-left, min-le-right}
+use lib.Dec.{leb}
+use lib.Seq.{length-take-le}
+use lib.ListN.{length, take, drop, replicate, length-take, length-replicate}
+use Rattle.model.specs.Res.{Res, refuse, ok, each, mapRes, _>>=_}
+use Rattle.model.specs.Bytes.{Bytes, put, place}
+use Rattle.model.specs.Font.{Tables}
+use Rattle.model.specs.Glyf.{Width, short, long, width, widthOf, entrySize, glyphs}
+use Rattle.model.specs.Walk.{walk}
+use Rattle.model.specs.Cut.{CutFont, count, closure, outlineOf, partsOf, pieceOf, optional, rewrite}
+use Rattle.model.specs.Metrics.{metrics}
+use Rattle.model.specs.Name.{cutName}
+use Rattle.model.specs.Post.{cutPost}
+use Rattle.model.specs.File.{entries, file}
+use Rattle.model.specs.Call.{Made, made, delivered, last, outFrom, placesFrom}
+use Rattle.model.proofs.Res.{map-inv, ok-inj, ok-refuse, bind-inv, need-inv}
+use Rattle.model.proofs.Members.{by}
+use Rattle.answer.specs.declared.Answer.{Answer as Answers}
+use Rattle.answer.specs.declared.Answer.the-variants as case
+use Rattle.remapper.specs.State.{numberIn}
+use Rattle.closure.specs.declared.Closed.{Closed}
+use Rattle.closure.specs.declared.Closed.the-variants as closed
+use Rattle.closure.specs.Closes.{partsIn, walkIn, closedOf, Closes}
+use Rattle.plan.specs.Steps.{fileFrom}
+use Rattle.plan.specs.declared.Source.{Source}
+use Rattle.plan.specs.Sources.{fontOf, Opens, Walked, Kept}
+use Rattle.subset.specs.Calls.{Rewrites, Cuts}
+use Rattle.subset.proofs.Call.{made-refused, made-from}
+
+-- n is at most 65,536, and loca has n + 1 entries if there is a glyph
+pub at-most : (w : Width) (loca : Bytes) → glyphs w loca ≤ 65536
+at-most w loca = min-le-left 65536 (length loca / entrySize w - 1)
+
+entries-there : (w : Width) (loca : Bytes) → 0 < glyphs w loca → entrySize w * (glyphs w loca + 1) ≤ length loca
+entries-there short loca h = omega (arith, min-le-right 65536 (length loca / 2 - 1))
+entries-there long loca h = omega (arith, min-le-right 65536 (length loca / 4 - 1))
+
+pub offsets : (font : Bytes) (s : Source) → Opens font s → (loca : Bytes) → loca ≡ (fontOf font s) .loca → 0 < s .n → entrySize (width (s .long)) * (s .n + 1) ≤ length loca
+offsets font s o loca e h =
+    let w = widthOf ((fontOf font s) .head) in
+    subst (λ (l : Bytes). entrySize (width (s .long)) * (s .n + 1) ≤ length l) (sym e)
+    (subst (λ (v : Width). entrySize v * (s .n + 1) ≤ length ((fontOf font s) .loca)) (sym (o .wide))
+    (subst (λ (n : ℕ). entrySize w * (n + 1) ≤ length ((fontOf font s) .loca)) (sym (o .number)) (entries-there w ((fontOf font s) .loca) (omega (arith, o .number)))))
+
+-- the walk over what the code is lent is the walk of the font's tables
+pub walk-in : (t : Tables) (wide : Bool) (n : ℕ) (ids : List ℕ) → width wide ≡ widthOf (t .head) → n ≡ count t
+    → walkIn (width wide) n (t .loca) (t .glyf) ids ≡ closure t ids
+unfolding walkIn partsIn closure partsOf outlineOf
+walk-in t wide n ids w e =
+    ap₂ (λ (w : Width) (n : ℕ). walk (2 + length ids + n * length (t .glyf)) n (λ g. mapRes Rattle.model.specs.Outline.components (Rattle.model.specs.Glyf.glyphBytes w (t .loca) (t .glyf) g >>= λ b. Rattle.model.specs.Outline.outline n b)) ids) w e
+
+-- what stands in the scratch once the first 4n places are cleared but for the roster
+pub cleared : (d : Bytes) (before after : List ℕ) (n : ℕ) (m : Res Made) (from : ℕ) → from ≡ last (length d) m .kept
+    → length after ≡ length before → 4 * n ≤ length before → drop (4 * n) after ≡ drop (4 * n) before
+    → ((v : Made) → m ≡ ok v → (take (length (v .roster)) after ≡ v .roster) × (length (v .roster) ≤ 4 * n))
+    → put after from (replicate (4 * n - from) 0) ≡ placesFrom (4 * n) (length d) m ++ drop (4 * n) before
+unfolding put
+cleared d before after n m from e l s p r = go m e r
+  where
+    tail : (from : ℕ) → from ≤ 4 * n → drop (from + length (replicate {A = ℕ} (4 * n - from) 0)) after ≡ drop (4 * n) before
+    tail from h = ap (λ (k : ℕ). drop k after) (lengths from h) ∙ p
+      where
+        lengths : (from : ℕ) → from ≤ 4 * n → from + length (replicate {A = ℕ} (4 * n - from) 0) ≡ 4 * n
+        lengths from h = omega (arith, length-replicate {A = ℕ} (4 * n - from) 0)
+
+    none : (from : ℕ) → from ≡ 0 → take from after ++ replicate (4 * n - from) 0 ++ drop (from + length (replicate {A = ℕ} (4 * n - from) 0)) after ≡ replicate (4 * n) 0 ++ drop (4 * n) before
+    none from q = rw q (ap (λ (k : ℕ). replicate k 0 ++ drop (0 + length (replicate {A = ℕ} (4 * n - 0) 0)) after) (less n) ∙ ap (λ (x : List ℕ). replicate (4 * n) 0 ++ x) (tail 0 (omega arith)))
+      where
+        less : (n : ℕ) → 4 * n - 0 ≡ 4 * n
+        less n = omega arith
+
+    go : (m : Res Made) → from ≡ last (length d) m .kept → ((v : Made) → m ≡ ok v → (take (length (v .roster)) after ≡ v .roster) × (length (v .roster) ≤ 4 * n))
+        → take from after ++ replicate (4 * n - from) 0 ++ drop (from + length (replicate {A = ℕ} (4 * n - from) 0)) after ≡ placesFrom (4 * n) (length d) m ++ drop (4 * n) before
+    go (refuse k) e r = none from e
+    go (ok v) e r =
+        by (leb (length (v .bytes)) (length d))
+        (λ t. let q : from ≡ length (v .roster) = e ∙ ap (λ (b : Bool). delivered b v .kept) t in
+        rw (t, q) (ap₂ (λ (x y : List ℕ). x ++ replicate (4 * n - length (v .roster)) 0 ++ y) (r v refl .0) (tail (length (v .roster)) (r v refl .1))))
+        (λ t. rw t (none from (e ∙ ap (λ (b : Bool). delivered b v .kept) t)))
+
+-- a plan's file has the walk's roster
+pub file-roster : (t : Tables) (r : List ℕ) (rest : Res CutFont) (v : Made) → ((c : CutFont) → rest ≡ ok c → c .roster ≡ r) → fileFrom rest ≡ ok v → v .roster ≡ r
+unfolding fileFrom
+file-roster t r rest v h e =
+    let s = bind-inv rest _ v e in
+    let c = s .value in
+    let w = need-inv 5 (leb (length (file (entries (c .tables)))) 4294967295) (ok (record { roster = c .roster; bytes = file (entries (c .tables)) })) v (s .then) in
+    sym (ap (λ (m : Made). m .roster) (ok-inj (w .1))) ∙ h c (s .first)
+
+pub rewrite-roster : (t : Tables) (r : List ℕ) (c : CutFont) → rewrite t r ≡ ok c → c .roster ≡ r
+unfolding rewrite
+rewrite-roster t r c e =
+    let a = bind-inv (each (pieceOf t (place r)) r) _ c e in
+    let b = bind-inv (metrics (t .hhea) (t .hmtx) r) _ c (a .then) in
+    let d = bind-inv (optional cutName (t .name)) _ c (b .then) in
+    let f = bind-inv (optional (λ x. cutPost x r) (t .post)) _ c (d .then) in
+    sym (ap (λ (c : CutFont). c .roster) (ok-inj (f .then)))
+
+refused-by : {A : Type 0} (m : Res (List A)) (k : ℕ) → refuse k ≡ mapRes length m → m ≡ refuse k
+refused-by (refuse j) k e = cc
+refused-by (ok a) k e = ok-refuse (sym e)
+
+-- the walk refused, or the roster stands in the scratch
+module _ (font : Bytes) (s : Source) (ids before after : List ℕ) (o : Opens font s) (space : 4 * s .n ≤ length before) (same : length after ≡ length before)
+    (loca glyf : Bytes) (is-loca : loca ≡ (fontOf font s) .loca) (is-glyf : glyf ≡ (fontOf font s) .glyf)
+    (answer : Closed) (v : Closes (walkIn (width (s .long)) (s .n) loca glyf ids) (s .n) before after answer) where
+  walked : walkIn (width (s .long)) (s .n) loca glyf ids ≡ closure (fontOf font s) ids
+  walked = ap₂ (λ (l g : Bytes). walkIn (width (s .long)) (s .n) l g ids) is-loca is-glyf ∙ walk-in (fontOf font s) (s .long) (s .n) ids (o .wide) (o .number)
+
+  pub walk-refused : (k : ℕ) → answer ≡ closed.No k → (d : Bytes) → Cuts (fontOf font s) ids (s .n) before after d d (case.No k)
+  walk-refused k e d =
+      let q : closure (fontOf font s) ids ≡ refuse k = refused-by (closure (fontOf font s) ids) k (ap closedOf (sym e) ∙ v .answer ∙ ap (mapRes length) walked) in
+      let m = made-refused (fontOf font s) ids k q in
+      record {
+        answers = sym (ap (last (length d)) m);
+        writes = sym (ap (outFrom d) m);
+        same-length = same;
+        past = v .past;
+        roster = λ w f. ok-refuse (sym f ∙ m);
+      }
+
+  pub walk-closes : (kept : ℕ) → answer ≡ closed.Kept kept → closure (fontOf font s) ids ≡ ok (take kept after)
+  walk-closes kept e =
+      let i = map-inv length (closure (fontOf font s) ids) kept (sym (ap closedOf (sym e) ∙ v .answer ∙ ap (mapRes length) walked)) in
+      let ro = v .scratch (i .0) (walked ∙ i .1) in
+      i .1 ∙ ap ok (sym (ap (λ (k : ℕ). take k after) (sym (i .2)) ∙ ro .ids))
+
+  pub walk-kept : (kept : ℕ) → answer ≡ closed.Kept kept → Walked font s after kept
+  walk-kept kept e =
+      let i = map-inv length (closure (fontOf font s) ids) kept (sym (ap closedOf (sym e) ∙ v .answer ∙ ap (mapRes length) walked)) in
+      let ro = v .scratch (i .0) (walked ∙ i .1) in
+      let is : take kept after ≡ i .0 = ap (λ (k : ℕ). take k after) (sym (i .2)) ∙ ro .ids in
+      record {
+        ids = ids;
+        closes = walk-closes kept e;
+        inside = omega (arith, i .2, ap length (ro .ids), length-take (length (i .0)) after);
+        numbers = λ g h. ro .numbers g h ∙ ap (λ (r : List ℕ). numberIn r g) (sym is);
+        space = omega (arith, same);
+      }
+
+pub take-take : (j m : ℕ) (l : List ℕ) → j ≤ m → take j (take m l) ≡ take j l
+take-take zero m l h = refl
+take-take (suc j) zero l h = absurd (omega arith)
+take-take (suc j) (suc m) [] h = refl
+take-take (suc j) (suc m) (x ∷ l) h = ap (λ (r : List ℕ). x ∷ r) (take-take j m l (omega arith))
+
+-- what the roster's rest gives, as the whole
+pub from-walk : (t : Tables) (n : ℕ) (ids : List ℕ) (kept : ℕ) (before middle after : List ℕ) (d e : Bytes) (a : Answers) → closure t ids ≡ ok (take kept middle) → kept ≤ n → kept ≤ length middle
+    → length middle ≡ length before → drop (4 * n) middle ≡ drop (4 * n) before → Rewrites t (take kept middle) n middle after d e a → Cuts t ids n before after d e a
+from-walk t n ids kept before middle after d e a c k l same past v =
+    let m = made-from t ids (take kept middle) c in
+    record {
+      answers = v .answers ∙ sym (ap (last (length d)) m);
+      writes = v .writes ∙ sym (ap (outFrom d) m);
+      same-length = v .leaves .same-length ∙ same;
+      past = v .leaves .back ∙ past;
+      roster = λ w f. stands w (file-roster t (take kept middle) (rewrite t (take kept middle)) w (rewrite-roster t (take kept middle)) (sym m ∙ f));
+    }
+  where
+    stands : (w : Made) → w .roster ≡ take kept middle → take (length (w .roster)) after ≡ w .roster
+    stands w q =
+        let j = length-take-le kept middle l in
+        ap (λ (r : List ℕ). take (length r) after) q
+        ∙ ap (λ (i : ℕ). take i after) j
+        ∙ sym (take-take kept (2 * n) after (omega arith))
+        ∙ ap (take kept) (v .leaves .front)
+        ∙ take-take kept (2 * n) middle (omega arith)
+        ∙ sym q

@@ -1,0 +1,190 @@
+-- The layout's places are those of the new tables: each is marked if it is there, is as long as its bytes, and has its room in the output.
+use mathlib.Core.Path.{_≡_, refl, sym, ap, _∙_, subst}
+use mathlib.Core.Bool.{Bool, true, false}
+use mathlib.Core.Option.{Option, none, some}
+use mathlib.Core.List.{List, []}
+use Prim.Native.Nat.{ℕ, suc, _+_, _-_, _%_, _≤_, _<_}
+use native.Mathlib.Omega.{arith}
+use lib.Dec.{lit<}
+use lib.ListN.{length, getD, take, drop, replicate, length-take, length-drop, List·getD-map}
+use borrow.Rule.Slice.PartMut.{putMid}
+use Rattle.model.specs.Bytes.{Bytes, place, put, over, pad4}
+use Rattle.model.specs.Res.{pick, each, valueOf}
+use Rattle.model.specs.Font.{Tables}
+use Rattle.model.specs.Glyf.{size, newWidth}
+use Rattle.model.specs.Cut.{pieceOf}
+use Rattle.model.specs.File.{entries, file}
+use Rattle.model.proofs.Bytes.{length-put}
+use Rattle.model.proofs.Parts.{put-back}
+use Rattle.places.specs.Places.{placeAt}
+use Rattle.construct.specs.declared.Layout.{Layout}
+use Rattle.construct.specs.Construct.{raised, laidOut, laid, contentOf, bodyOf, marks, Marked, Sized, Placed, Ready, Room, Written, writeAt, writeTo}
+use Rattle.construct.proofs.Files.{raised-room}
+use Rattle.construct.proofs.Placing.{layout-placed, layout-length, layout-present}
+use Rattle.construct.proofs.Readiness.{room-there, place-room}
+use Rattle.construct.proofs.Written.{write-there, written-to, written-ready, length-cut, finish-cut}
+use Rattle.plan.specs.declared.Source.{Source}
+use Rattle.plan.specs.declared.Plan.{Plan}
+use Rattle.plan.specs.Steps.{renewed, tablesOf, there?, bytesIn}
+use Rattle.plan.specs.Sources.{fontOf, Found}
+use Rattle.tables.specs.Writing.{newBody, writeRun, Writes}
+use Rattle.tables.proofs.Lengths.{length-newHead}
+
+-- the tables by number, as the measures and as the layout have them
+same-content : (o : Option Bytes) → contentOf o ≡ bytesIn o
+same-content none = refl
+same-content (some b) = refl
+
+pub body-is : (c : Tables) (k : ℕ) → bodyOf c k ≡ bytesIn (getD (tablesOf c) k none)
+unfolding bodyOf
+body-is c k = simp same-content (List·getD-map bytesIn (tablesOf c) k none)
+
+pub mark-is : (c : Tables) (k : ℕ) → getD (marks c) k false ≡ there? (getD (tablesOf c) k none)
+unfolding marks
+mark-is c k = List·getD-map there? (tablesOf c) k none
+
+module _ (t : Tables) (r : List ℕ) (p : Plan) (found : Found t r p) (new : Layout) (is : new ≡ laidOut (p .sized)) where
+  placed-at : Placed new
+  placed-at = subst Placed (sym is) (layout-placed (p .sized))
+
+  marked-at : Marked (renewed t r) (new .tables)
+  marked-at k h =
+      subst (λ (n : Layout). (placeAt (n .tables) k) .present ≡ getD (marks (renewed t r)) k false) (sym is)
+      (layout-present (p .sized) k h ∙ found .sized k h .0 ∙ sym (mark-is (renewed t r) k))
+
+  sized-at : Sized (new .tables) (bodyOf (renewed t r))
+  sized-at k h there =
+      subst (λ (n : Layout). length (bodyOf (renewed t r) k) ≡ (placeAt (n .tables) k) .length) (sym is)
+      (ap length (body-is (renewed t r) k) ∙ sym (layout-length (p .sized) k h ∙ found .sized k h .1))
+
+  -- head is long enough for its adjustment
+  head-long : 52 ≤ length (t .head) → 12 ≤ (placeAt (new .tables) 3) .length
+  unfolding marks bodyOf renewed
+  head-long h =
+      let l = length-newHead (newWidth (size (valueOf [] (each (pieceOf t (place r)) r)))) (t .head) h in
+      let e = sized-at 3 (lit< tt) (marked-at 3 (lit< tt)) in
+      omega arith
+
+-- THEOREM. The file's length is the layout's end, before a byte is written
+pub file-length : (t : Tables) (r : List ℕ) (p : Plan) → Found t r p → 52 ≤ length (t .head)
+    → length (file (entries (renewed t r))) ≡ (laidOut (p .sized)) .end
+file-length t r p found long =
+    length-cut (renewed t r) (laidOut (p .sized)) (placed-at t r p found (laidOut (p .sized)) refl) (marked-at t r p found (laidOut (p .sized)) refl)
+    (sized-at t r p found (laidOut (p .sized)) refl) (head-long t r p found (laidOut (p .sized)) refl long)
+
+-- table number k has its place in the output
+pub record Spot (new : Layout) (k : ℕ) (body out : Bytes) : Type 0 where
+  pub there : (placeAt (new .tables) k) .present ≡ true
+  pub size : length body ≡ (placeAt (new .tables) k) .length
+  pub padded : (placeAt (new .tables) k) .offset + raised ((placeAt (new .tables) k) .length) ≤ length out
+  pub inside : (placeAt (new .tables) k) .offset + length body ≤ length out
+
+-- the part of the output that its writer is lent
+abbrev pub lentPart : Layout → ℕ → Bytes → Bytes
+lentPart new k out = take (length out - (placeAt (new .tables) k) .offset) (drop ((placeAt (new .tables) k) .offset) out)
+
+module _ {new : Layout} {k : ℕ} {body out : Bytes} (s : Spot new k body out) where
+  pub lent-room : length body ≤ length (lentPart new k out)
+  lent-room = let i = s .inside in simp (length-take, length-drop) (omega arith)
+
+  -- what a writer leaves of the lent part, in its place again
+  part-back : (y : Bytes) → y ≡ over body (lentPart new k out)
+      → putMid ((placeAt (new .tables) k) .offset) (length out - (placeAt (new .tables) k) .offset) out y ≡ put out ((placeAt (new .tables) k) .offset) body
+  part-back y e =
+      let at = (placeAt (new .tables) k) .offset in
+      let i = s .inside in
+      ap (putMid at (length out - at) out) e ∙ put-back at (length out - at) out body (omega arith) (omega arith)
+
+  pub pad-fits : (y : Bytes) → y ≡ over body (lentPart new k out)
+      → (placeAt (new .tables) k) .offset + raised ((placeAt (new .tables) k) .length)
+      ≤ length (putMid ((placeAt (new .tables) k) .offset) (length out - (placeAt (new .tables) k) .offset) out y)
+  pad-fits y e =
+      let l = ap length (part-back y e) ∙ length-put out ((placeAt (new .tables) k) .offset) body (s .inside) in
+      let p = s .padded in
+      omega arith
+
+  -- and then padded: the padded table at its place
+  pub part-written : (y o : Bytes) → y ≡ over body (lentPart new k out)
+      → o ≡ put (putMid ((placeAt (new .tables) k) .offset) (length out - (placeAt (new .tables) k) .offset) out y)
+      ((placeAt (new .tables) k) .offset + (placeAt (new .tables) k) .length) (replicate ((4 - (placeAt (new .tables) k) .length % 4) % 4) 0)
+      → o ≡ writeAt new k body out
+  part-written y o e f =
+      let at = (placeAt (new .tables) k) .offset in
+      let i = s .inside in
+      write-there new k body out (putMid at (length out - at) out y) o (s .there) (omega arith) (part-back y e)
+      (f ∙ ap (λ (n : ℕ). put (putMid at (length out - at) out y) (at + n) (replicate ((4 - n % 4) % 4) 0)) (sym (s .size)))
+
+-- of a table that isn't there the bytes don't matter
+pub write-same : (new : Layout) (k : ℕ) (a b out : Bytes) → ((placeAt (new .tables) k) .present ≡ true → a ≡ b) → writeAt new k a out ≡ writeAt new k b out
+unfolding writeAt
+write-same new k a b out h = go ((placeAt (new .tables) k) .present) h
+  where
+    go : (t : Bool) → (t ≡ true → a ≡ b) → pick t (put out ((placeAt (new .tables) k) .offset) (pad4 a)) out ≡ pick t (put out ((placeAt (new .tables) k) .offset) (pad4 b)) out
+    go true e = ap (λ (z : Bytes). put out ((placeAt (new .tables) k) .offset) (pad4 z)) (e refl)
+    go false e = refl
+
+-- three tables, and four, one after the other
+module _ (new : Layout) (body : ℕ → Bytes) (i : ℕ) (out : Bytes) where
+  pub run-three : {a b c : Bytes} → a ≡ writeAt new i (body i) out → b ≡ writeAt new (suc i) (body (suc i)) a
+      → c ≡ writeAt new (suc (suc i)) (body (suc (suc i))) b → c ≡ writeRun new body i 3 out
+  unfolding writeRun
+  run-three e f g =
+      g ∙ ap (λ (z : Bytes). writeAt new (suc (suc i)) (body (suc (suc i))) z) (f ∙ ap (λ (z : Bytes). writeAt new (suc i) (body (suc i)) z) e)
+
+  pub run-four : {a b c d : Bytes} → a ≡ writeAt new i (body i) out → b ≡ writeAt new (suc i) (body (suc i)) a
+      → c ≡ writeAt new (suc (suc i)) (body (suc (suc i))) b → d ≡ writeAt new (suc (suc (suc i))) (body (suc (suc (suc i)))) c
+      → d ≡ writeRun new body i 4 out
+  unfolding writeRun
+  run-four e f g h = h ∙ ap (λ (z : Bytes). writeAt new (suc (suc (suc i))) (body (suc (suc (suc i)))) z) (run-three e f g)
+
+module _ {font : Bytes} {s : Source} {scratch : List ℕ} {kept : ℕ} {p : Plan} {new : Layout} (w : Writes font s scratch kept p new) where
+  placed : Placed new
+  placed = placed-at (fontOf font s) (take kept scratch) p (w .found) new (w .layout)
+
+  pub marked : Marked (renewed (fontOf font s) (take kept scratch)) (new .tables)
+  marked = marked-at (fontOf font s) (take kept scratch) p (w .found) new (w .layout)
+
+  sized : Sized (new .tables) (bodyOf (renewed (fontOf font s) (take kept scratch)))
+  sized = sized-at (fontOf font s) (take kept scratch) p (w .found) new (w .layout)
+
+  long : 12 ≤ (placeAt (new .tables) 3) .length
+  long = head-long (fontOf font s) (take kept scratch) p (w .found) new (w .layout) (w .opens .long .head)
+
+  -- the new tables are no longer than the file
+  pub body-small : (k : ℕ) → k < 11 → (placeAt (new .tables) k) .present ≡ true → length (newBody font s scratch kept k) ≤ 4294967295
+  unfolding newBody
+  body-small k h there = let m = place-room new placed k h there in let e = sized k h there in let z = w .small in omega arith
+
+  module _ (out : Bytes) (room : new .end ≤ length out) where
+    pub room-at : (k : ℕ) → k < 11 → (b : Bytes) → ((placeAt (new .tables) k) .present ≡ true → b ≡ newBody font s scratch kept k) → Room out new k (length b)
+    unfolding newBody
+    room-at k h b e = record { placed = placed; known = h; fits = λ t. ap length (e t) ∙ sized k h t; room = room }
+
+    pub spot : (k : ℕ) → k < 11 → (placeAt (new .tables) k) .present ≡ true → Spot new k (newBody font s scratch kept k) out
+    unfolding newBody
+    spot k h there =
+        let e = sized k h there in
+        let m = room-there out new k (length (newBody font s scratch kept k)) (room-at k h (newBody font s scratch kept k) (λ t. refl)) there in
+        let r = raised-room ((placeAt (new .tables) k) .length) in
+        let f = ap raised e in
+        record { there = there; size = e; padded = omega arith; inside = omega arith }
+
+    -- one of the six that every font has
+    pub spot-of : (k : ℕ) → k < 11 → there? (getD (tablesOf (renewed (fontOf font s) (take kept scratch))) k none) ≡ true → Spot new k (newBody font s scratch kept k) out
+    spot-of k h e = spot k h (marked k h ∙ mark-is (renewed (fontOf font s) (take kept scratch)) k ∙ e)
+
+    module _ (o₁ o₂ o₃ : Bytes) (e₁ : o₁ ≡ writeRun new (newBody font s scratch kept) 0 4 out) (e₂ : o₂ ≡ writeRun new (newBody font s scratch kept) 4 4 o₁)
+        (e₃ : o₃ ≡ writeRun new (newBody font s scratch kept) 8 3 o₂) where
+      all-written : Written new (bodyOf (renewed (fontOf font s) (take kept scratch))) out o₃ 11
+      unfolding writeRun writeTo newBody
+      all-written =
+          e₃ ∙ ap (writeRun new (newBody font s scratch kept) 8 3) (e₂ ∙ ap (writeRun new (newBody font s scratch kept) 4 4) e₁)
+          ∙ written-to new placed (bodyOf (renewed (fontOf font s) (take kept scratch))) sized out room 11 (omega arith)
+
+      pub all-ready : Ready o₃ new
+      unfolding marks
+      all-ready =
+          written-ready new placed (bodyOf (renewed (fontOf font s) (take kept scratch))) sized out room o₃ all-written (w .small) (marked 3 (lit< tt)) long
+
+      pub all-finished : over (file (laid o₃ (new .tables))) o₃ ≡ over (file (entries (renewed (fontOf font s) (take kept scratch)))) out
+      all-finished = finish-cut (renewed (fontOf font s) (take kept scratch)) new placed marked sized long out o₃ room all-written
