@@ -6,13 +6,13 @@ use mathlib.Core.List.{List, [], _∷_}
 use Prim.Native.Nat.{ℕ, zero, suc, _+_, _*_, _≤_, _<_}
 use native.Mathlib.Omega.{arith}
 use lib.Dec.{leb, eqb}
-use lib.ListN.{length, getD, set, drop, replicate, length-set, getD-replicate, drop-of-length-le}
+use lib.ListN.{length, getD, set, drop, length-set, getD-replicate, drop-of-length-le}
 use lib.Seq.{getD-set-same, getD-set-other, getD-drop, drop-cons}
 use native.Mathlib.Numerals.{add-one}
-use borrow.Author.Tests.{le-leb, lt-leb, leb-true, leb-false, eq-eqb, eqb-true, eqb-false, ne-eqb}
-use Rattle.model.specs.Res.{pick, both}
-use Rattle.model.specs.Bytes.{Bytes, word16, word32, holds, part, place}
-use Rattle.model.specs.Font.{Row, Entry, usable, find, rowOf, rows}
+use borrow.Author.Tests.{le-leb, lt-leb, leb-true, eq-eqb, eqb-true, eqb-false, ne-eqb}
+use Rattle.model.specs.Res.{pick}
+use Rattle.model.specs.Bytes.{Bytes, word32, holds, part, place}
+use Rattle.model.specs.Font.{Row, usable, find, rowOf, rows}
 use Rattle.model.proofs.Res.{pick-true, pick-false}
 use Rattle.model.proofs.Members.{by}
 use Rattle.model.proofs.Font.{length-rows, getD-rows}

@@ -1,14 +1,13 @@
 -- Step 3's tests on the places are `gather`'s on the tables found: a usable table is as long as its place says.
 use mathlib.Core.Path.{_≡_, refl, sym, ap, _∙_, subst}
 use mathlib.Core.Bool.{Bool, true, false, not}
-use mathlib.Core.Option.{Option, none, some}
 use mathlib.Core.List.{List}
-use Prim.Native.Nat.{ℕ, _+_, _*_, _≤_, _<_}
+use Prim.Native.Nat.{ℕ, _+_, _*_, _<_}
 use native.Mathlib.Omega.{arith}
-use lib.Dec.{leb, eqb, lit<}
+use lib.Dec.{eqb, lit<}
 use lib.Seq.{getD-drop}
 use lib.ListN.{length, getD, drop, length-take, length-drop}
-use Rattle.model.specs.Res.{Res, refuse, ok, pick, both, need, _>>=_, _>>_}
+use Rattle.model.specs.Res.{Res, refuse, ok, pick, need, _>>=_, _>>_}
 use Rattle.model.specs.Bytes.{Bytes, word16, word32, holds}
 use Rattle.model.specs.Font.{Entry, Tables, find, must, faceAt, faceStart, outlines, directory, rows, ascending, usable, gather, read, OTTO, TTCF}
 use borrow.Author.Tests.{ne-eqb}

@@ -5,7 +5,7 @@ use Prim.Native.Nat.{ℕ, _+_, _*_, _≤_, _<_}
 use lib.Dec.{eqb}
 use lib.ListN.{length}
 use borrow.Author.Tests.{le-leb, lt-leb, eq-eqb, ne-eqb}
-use Rattle.model.specs.Res.{Res, refuse, ok, pick, either}
+use Rattle.model.specs.Res.{refuse, ok, either}
 use Rattle.model.specs.Bytes.{Bytes, word32, holds}
 use Rattle.model.specs.Font.{faceStart, faceAt, outlines, TRUETYPE, APPLE, OTTO, TTCF}
 use Rattle.model.proofs.Res.{need-ok, need-no, pick-true, pick-false}

@@ -9,9 +9,9 @@ use native.Mathlib.Numerals.{add-one}
 use lib.Dec.{ltb, eqb}
 use lib.ListN.{length, getD, drop, drop-of-length-le}
 use lib.Seq.{drop-cons}
-use Rattle.model.specs.Res.{pick, both}
+use Rattle.model.specs.Res.{both}
 use Rattle.model.specs.Bytes.{Bytes, word32, place}
-use Rattle.model.specs.Font.{Row, ascending, ascendingFrom, rowOf, rows}
+use Rattle.model.specs.Font.{Row, ascending, ascendingFrom, rows}
 use Rattle.places.specs.Places.{tagWords}
 use Rattle.model.proofs.Bytes.{word32-drop}
 use Rattle.model.proofs.Font.{getD-rows}

@@ -1,12 +1,12 @@
 -- Bytes written and read: what `put` and `over` leave at each place, words read back as they were written, words in a part.
 use mathlib.Core.Path.{_≡_, refl, sym, ap, ap₂, _∙_}
-use mathlib.Core.List.{List, [], _∷_, _++_, append-assoc}
+use mathlib.Core.List.{List, [], _++_, append-assoc}
 use Prim.Native.Nat.{ℕ, _+_, _*_, _-_, _/_, _%_, _≤_, _<_}
 use native.Mathlib.Omega.{arith}
 use native.Mathlib.Nat.{add-assoc, zero-add, add-zero}
 use lib.Dec.{lit<}
 use lib.ListN.{length, take, drop, getD, length-append, length-take, length-drop, List·getD-append}
-use lib.Seq.{take-at, drop-at, take-append-le, drop-append-le, drop-append-add, drop-drop, length-take-le, getD-take, getD-drop, getD-append-add}
+use lib.Seq.{take-at, take-append-le, drop-append-le, drop-append-add, drop-drop, length-take-le, getD-take, getD-drop, getD-append-add}
 use Rattle.model.specs.Bytes.{Bytes, word16, word32, be16, be32, put, over}
 
 pub length-be16 : (v : ℕ) → length (be16 v) ≡ 2

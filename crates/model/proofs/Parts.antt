@@ -1,10 +1,10 @@
 -- Parts of a slice as the borrow checker has them: `&s[a..e]` is `take (e - a) (drop a s)`, and a `&mut` part comes back by `putMid`. Assumes nothing.
-use Prim.Native.Nat.{ℕ, _+_, _-_, _≤_, min}
-use mathlib.Core.Path.{_≡_, refl, ap, sym, _∙_}
+use Prim.Native.Nat.{ℕ, _+_, _-_, _≤_}
+use mathlib.Core.Path.{_≡_, ap, sym, _∙_}
 use mathlib.Core.List.{List, _++_, append-assoc}
 use native.Mathlib.Omega.{arith}
 use lib.ListN.{length, take, drop, length-take, length-drop, take-append-drop}
-use lib.Seq.{take-all, drop-append-le, drop-drop}
+use lib.Seq.{take-all, drop-append-le}
 use borrow.Rule.Slice.PartMut.{putMid}
 use Rattle.model.specs.Bytes.{put, over}
 use Rattle.model.proofs.Bytes.{over-part, put-over, length-over}

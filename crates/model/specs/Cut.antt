@@ -3,7 +3,7 @@ use mathlib.Core.Option.{Option, none, some}
 use mathlib.Core.List.{List, _++_}
 use Prim.Native.Nat.{ℕ, _+_, _*_}
 use lib.ListN.{length, drop}
-use Rattle.model.specs.Res.{Res, refuse, ok, each, mapRes, _>>=_}
+use Rattle.model.specs.Res.{Res, refuse, ok, each, mapRes, _>>=_, _>>_}
 use Rattle.model.specs.Bytes.{Bytes, be16, be32, place}
 use Rattle.model.specs.Font.{Tables}
 use Rattle.model.specs.Outline.{Outline, outline, components, renumber, written}

@@ -4,7 +4,7 @@ use mathlib.Core.List.{List, [], _∷_, _++_, map}
 use Prim.Native.Nat.{ℕ, suc, _+_, _*_, _-_, _/_, min}
 use lib.Dec.{leb, eqb}
 use lib.ListN.{length, drop}
-use Rattle.model.specs.Res.{Res, refuse, ok, pick, need, _>>=_, _>>_}
+use Rattle.model.specs.Res.{Res, ok, pick, need, _>>=_, _>>_}
 use Rattle.model.specs.Bytes.{Bytes, word16, word32, be16, be32, part, put, pad2, sum, concat}
 
 pub data Width : Type 0 where

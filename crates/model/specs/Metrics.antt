@@ -3,7 +3,7 @@ use mathlib.Core.List.{List, [], _∷_, _++_}
 use Prim.Native.Nat.{ℕ, suc, _+_, _*_, _-_}
 use lib.Dec.{ltb, eqb}
 use lib.ListN.{length, take, drop}
-use Rattle.model.specs.Res.{Res, refuse, ok, pick, need, each, _>>=_, _>>_}
+use Rattle.model.specs.Res.{Res, ok, pick, need, each, _>>=_, _>>_}
 use Rattle.model.specs.Bytes.{Bytes, word16, be16, holds, all}
 
 -- advance and bearing

@@ -4,7 +4,7 @@ use mathlib.Core.List.{List, [], _∷_, _++_, map}
 use Prim.Native.Nat.{ℕ, zero, suc, _+_, _*_}
 use lib.Dec.{leb, eqb}
 use lib.ListN.{length, take, drop}
-use Rattle.model.specs.Res.{Res, refuse, ok, pick, both, either, need, each, _>>=_, _>>_}
+use Rattle.model.specs.Res.{Res, ok, pick, both, either, need, each, _>>=_, _>>_}
 use Rattle.model.specs.Bytes.{Bytes, word16, be16, holds, part, concat, sameBytes}
 
 -- the records as they stand: platform, encoding, language, name id, length, offset

@@ -1,11 +1,10 @@
 -- "Outline": one glyph's bytes, read into a datum, renumbered, and written again.
-use mathlib.Core.Bool.{Bool}
 use mathlib.Core.List.{List, [], _∷_, _++_, map}
 use Prim.Native.Nat.{ℕ, zero, suc, _+_}
 use lib.Dec.{ltb}
 use lib.ListN.{length, take, drop}
 use Rattle.model.specs.Res.{Res, refuse, ok, pick, need, mapRes, _>>=_, _>>_}
-use Rattle.model.specs.Bytes.{Bytes, word16, be16, flag, holds, concat, all}
+use Rattle.model.specs.Bytes.{Bytes, word16, be16, flag, holds, concat}
 
 -- "Empty is fine"; a simple outline is its bytes; a composite is its 10 header bytes, its records, and the bytes kept after the last record
 pub data Outline : Type 0 where

@@ -3,7 +3,7 @@ use mathlib.Core.List.{List, [], _∷_, _++_, map}
 use Prim.Native.Nat.{ℕ, zero, suc, _+_, _*_, _-_}
 use lib.Dec.{ltb, leb, eqb}
 use lib.ListN.{length, getD, take, drop}
-use Rattle.model.specs.Res.{Res, refuse, ok, pick, both, need, each, _>>=_, _>>_}
+use Rattle.model.specs.Res.{Res, ok, pick, both, need, each, _>>=_, _>>_}
 use Rattle.model.specs.Bytes.{Bytes, word16, word32, be16, holds, concat}
 
 -- "The names list ends at an empty or cut name". A name takes a byte or more, so as many turns as there are bytes are enough (theorem `names-enough`)

@@ -2,14 +2,13 @@
 use mathlib.Core.Path.{_≡_, sym, ap, subst}
 use mathlib.Core.Bool.{true}
 use mathlib.Core.List.{List}
-use Prim.Native.Nat.{ℕ, _-_, _/_, _≤_, _<_}
+use Prim.Native.Nat.{ℕ, _-_, _≤_, _<_}
 use native.Mathlib.Omega.{arith}
-use native.Mathlib.Nat.{min-le-left}
 use lib.ListN.{length, take}
 use lib.Seq.{length-take-le}
 use Rattle.model.specs.Res.{each, isOk}
 use Rattle.model.specs.Bytes.{Bytes, place}
-use Rattle.model.specs.Glyf.{Width, widthOf, entrySize, glyphs}
+use Rattle.model.specs.Glyf.{widthOf}
 use Rattle.model.specs.Cut.{count, partsOf, pieceOf}
 use Rattle.model.proofs.Members.{In, in-under}
 use Rattle.model.proofs.Thin.{ids}
@@ -17,12 +16,9 @@ use Rattle.model.proofs.Least.{Roster}
 use Rattle.model.proofs.Closure.{closure-roster, pieces-known}
 use Rattle.model.proofs.Places.{place-low}
 use Rattle.model.proofs.Chosen.{pigeons}
+use Rattle.closure.proofs.Final.{glyphs-small}
 use Rattle.plan.specs.declared.Source.{Source}
 use Rattle.plan.specs.Sources.{fontOf, Opens, Walked}
-
--- n is at most 65,536
-pub at-most : (w : Width) (loca : Bytes) → glyphs w loca ≤ 65536
-at-most w loca = min-le-left 65536 (length loca / entrySize w - 1)
 
 module _ (font : Bytes) (s : Source) (scratch : List ℕ) (kept : ℕ) (o : Opens font s) (w : Walked font s scratch kept) where
   roster : Roster (count (fontOf font s)) (partsOf (fontOf font s)) (w .ids) (take kept scratch)
@@ -47,4 +43,4 @@ module _ (font : Bytes) (s : Source) (scratch : List ℕ) (kept : ℕ) (o : Open
   pieces-fine = ap isOk (pieces-known (fontOf font s) (w .ids) (take kept scratch) (w .closes) .1)
 
   pub most : s .n ≤ 65536
-  most = rw (o .number) (at-most (widthOf ((fontOf font s) .head)) ((fontOf font s) .loca))
+  most = rw (o .number) (glyphs-small (widthOf ((fontOf font s) .head)) ((fontOf font s) .loca))

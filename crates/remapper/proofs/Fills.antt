@@ -5,7 +5,7 @@ use mathlib.Core.Path.{_≡_, refl, sym, ap, _∙_, subst}
 use native.Mathlib.Omega.{arith}
 use native.Mathlib.Nat.{zero-add}
 use native.Mathlib.Numerals.{add-one}
-use lib.ListN.{length, getD, drop, set, replicate, length-append, length-drop, length-replicate, getD-replicate, List·getD-append}
+use lib.ListN.{length, take, getD, drop, set, replicate, length-append, length-drop, length-replicate, getD-replicate, List·getD-append}
 use lib.Seq.{paste, paste-suc, take-length, ext-getD, getD-drop, getD-append-seam}
 use lib.Dec.{eqb}
 use borrow.Author.Tests.{eqb-true, eqb-false}
@@ -13,7 +13,7 @@ use Rattle.model.specs.Bytes.{put}
 use Rattle.model.proofs.Bytes.{length-put, getD-put, getD-put-before, getD-put-after}
 use Rattle.model.proofs.Members.{In, by, clash, in-here, in-one}
 use Rattle.remapper.specs.Scratch.{num, prev, next, upTo, started}
-use Rattle.remapper.specs.State.{Rostered, Waits, Walking}
+use Rattle.remapper.specs.State.{Waits, Walking}
 use Rattle.remapper.proofs.Waiting.{waits-same}
 use Rattle.remapper.proofs.Numbering.{size-given, upper-given, past-given, rostered-given}
 
@@ -132,12 +132,12 @@ module _ (n : ℕ) (s : List ℕ) (some : 0 < n) (size : 4 * n ≤ length s) whe
   past-started = past-given n filled [] 0 (omega (arith, size₃)) some some ∙ past
 
 -- how a call leaves the scratch: the roster, or nothing of it, and zeros up to 4n
-pub roster-left : (n : ℕ) (s₀ s r : List ℕ) → Rostered n s r → drop (4 * n) s ≡ drop (4 * n) s₀ → length r ≤ 4 * n
+pub roster-left : (n : ℕ) (s₀ s r : List ℕ) → take (length r) s ≡ r → drop (4 * n) s ≡ drop (4 * n) s₀ → length r ≤ 4 * n
     → put s (length r) (replicate (4 * n - length r) 0) ≡ (r ++ replicate (4 * n - length r) 0) ++ drop (4 * n) s₀
 unfolding put
 roster-left n s₀ s r v e h =
     let k : length r + length (replicate {A = ℕ} (4 * n - length r) 0) ≡ 4 * n = omega (arith, length-replicate {A = ℕ} (4 * n - length r) 0) in
-    rw (v .ids, k, e, append-assoc)
+    rw (v, k, e, append-assoc)
 
 pub nothing-left : (n : ℕ) (s₀ s : List ℕ) → drop (4 * n) s ≡ drop (4 * n) s₀ → put s 0 (replicate (4 * n) 0) ≡ replicate (4 * n) 0 ++ drop (4 * n) s₀
 unfolding put

@@ -1,24 +1,17 @@
 -- The public call, case by case: what a refusal at each step and a success make of the answer, the output and the scratch.
-use mathlib.Core.Path.{_≡_, refl, sym, ap, ap₂, _∙_}
-use mathlib.Core.Bool.{Bool, true, false}
-use mathlib.Core.Option.{Option, none, some}
-use mathlib.Core.List.{List, [], _∷_, _++_}
+use mathlib.Core.Path.{_≡_, refl, sym, _∙_}
+use mathlib.Core.List.{List, _++_}
 use Prim.Native.Nat.{ℕ, _+_, _*_, _-_, _≤_, _<_}
-use native.Mathlib.Omega.{arith}
-use lib.Dec.{leb}
-use lib.ListN.{length, drop, replicate}
+use lib.ListN.{length, drop}
 use borrow.Author.Tests.{le-leb, lt-leb}
-use Rattle.model.specs.Res.{Res, refuse, ok, pick, each, need, isOk, valueOf, _>>=_, _>>_}
-use Rattle.model.specs.Bytes.{Bytes, over, place}
+use Rattle.model.specs.Res.{Res, refuse, ok, each}
+use Rattle.model.specs.Bytes.{Bytes, over}
 use Rattle.model.specs.Font.{Tables, read}
-use Rattle.model.specs.Metrics.{metrics}
-use Rattle.model.specs.Name.{cutName}
-use Rattle.model.specs.Post.{cutPost}
 use Rattle.model.specs.File.{entries, file}
-use Rattle.model.specs.Cut.{CutFont, pieceOf, newTables, optional, rewrite, cutTables, closure, count}
-use Rattle.model.specs.Call.{Input, Answer, Made, ready, made, delivered, last, answer, outFrom, outAfter, placesFrom, scratchFrom, scratchAfter, Promise}
+use Rattle.model.specs.Cut.{CutFont, rewrite, cutTables, closure, count}
+use Rattle.model.specs.Call.{Input, Answer, Made, ready, made, last, answer, outFrom, outAfter, placesFrom, scratchAfter, Promise}
 use Rattle.model.proofs.Res.{bind-ok, need-ok, need-no}
-use Rattle.plan.specs.Steps.{refusalOf, renewed, fileFrom}
+use Rattle.plan.specs.Steps.{fileFrom}
 
 -- steps 1 to 4 refuse: nothing changes
 pub not-ready : (x : Input) (k : ℕ) → ready x ≡ refuse k → Promise x (record { refusal = k; kept = 0; length = 0 }) (x .out) (x .scratch)
@@ -52,24 +45,6 @@ made-refused t ids k e = rw e
 pub made-from : (t : Tables) (ids r : List ℕ) → closure t ids ≡ ok r → made t ids ≡ fileFrom (rewrite t r)
 unfolding made cutTables fileFrom
 made-from t ids r e = rw e
-
--- steps 6 to 8: each passes, or its refusal decides
-abbrev with : List ℕ → Tables → CutFont
-with r t = record { roster = r; tables = t }
-
-rewritten : (t : Tables) (r : List ℕ) (bs : Res (List Bytes)) (ms : Res (List (ℕ × ℕ))) (name post : Res (Option Bytes)) → isOk bs ≡ true
-    → (bs >>= λ bs. ms >>= λ ms. name >>= λ name. post >>= λ post. ok (with r (newTables t (length r) bs ms name post)))
-    ≡ (ms >> (name >> (post >> ok (with r (newTables t (length r) (valueOf [] bs) (valueOf [] ms) (valueOf none name) (valueOf none post))))))
-rewritten t r (refuse k) ms name post e = absurd (let z : _≡_ {A = ℕ} 0 1 = cc in omega arith)
-rewritten t r (ok bs) (refuse k) name post e = refl
-rewritten t r (ok bs) (ok ms) (refuse k) post e = refl
-rewritten t r (ok bs) (ok ms) (ok name) (refuse k) e = refl
-rewritten t r (ok bs) (ok ms) (ok name) (ok post) e = refl
-
-pub rewrite-steps : (t : Tables) (r : List ℕ) → isOk (each (pieceOf t (place r)) r) ≡ true
-    → rewrite t r ≡ (metrics (t .hhea) (t .hmtx) r >> (optional cutName (t .name) >> (optional (λ b. cutPost b r) (t .post) >> ok (with r (renewed t r)))))
-unfolding rewrite renewed
-rewrite-steps t r e = rewritten t r (each (pieceOf t (place r)) r) (metrics (t .hhea) (t .hmtx) r) (optional cutName (t .name)) (optional (λ b. cutPost b r) (t .post)) e
 
 -- step 9 and 10
 pub too-long : (c : CutFont) → 4294967295 < length (file (entries (c .tables))) → fileFrom (ok c) ≡ refuse 5

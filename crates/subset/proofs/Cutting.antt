@@ -1,24 +1,23 @@
 -- Step 5 and the scratch: the walk's roster, and what is cleared in the end.
 use mathlib.Core.Path.{_≡_, refl, sym, ap, ap₂, _∙_, subst}
-use mathlib.Core.Bool.{Bool, true, false}
-use mathlib.Core.List.{List, [], _∷_, _++_}
-use Prim.Native.Nat.{ℕ, zero, suc, _+_, _*_, _-_, _/_, _≤_, _<_}
+use mathlib.Core.List.{List, _++_}
+use Prim.Native.Nat.{ℕ, _+_, _*_, _-_, _≤_}
 use native.Mathlib.Omega.{arith}
-use native.Mathlib.Nat.{min-le-left, min-le-right}
+use native.Mathlib.Nat.{sub-zero}
 use lib.Dec.{leb}
 use lib.Seq.{length-take-le}
-use lib.ListN.{length, take, drop, replicate, length-take, length-replicate}
-use Rattle.model.specs.Res.{Res, refuse, ok, each, mapRes, _>>=_}
+use lib.ListN.{length, take, drop, replicate, length-take}
+use Rattle.model.specs.Res.{Res, refuse, ok, each, mapRes}
 use Rattle.model.specs.Bytes.{Bytes, put, place}
 use Rattle.model.specs.Font.{Tables}
-use Rattle.model.specs.Glyf.{Width, short, long, width, widthOf, entrySize, glyphs}
+use Rattle.model.specs.Glyf.{Width, long, width, widthOf}
 use Rattle.model.specs.Walk.{walk}
-use Rattle.model.specs.Cut.{CutFont, count, closure, outlineOf, partsOf, pieceOf, optional, rewrite}
+use Rattle.model.specs.Cut.{CutFont, closure, pieceOf, optional, rewrite}
 use Rattle.model.specs.Metrics.{metrics}
 use Rattle.model.specs.Name.{cutName}
 use Rattle.model.specs.Post.{cutPost}
 use Rattle.model.specs.File.{entries, file}
-use Rattle.model.specs.Call.{Made, made, delivered, last, outFrom, placesFrom}
+use Rattle.model.specs.Call.{Made, last, outFrom, placesFrom}
 use Rattle.model.proofs.Res.{map-inv, ok-inj, ok-refuse, bind-inv, need-inv}
 use Rattle.model.proofs.Members.{by}
 use Rattle.answer.specs.declared.Answer.{Answer as Answers}
@@ -26,63 +25,31 @@ use Rattle.answer.specs.declared.Answer.the-variants as case
 use Rattle.remapper.specs.State.{numberIn}
 use Rattle.closure.specs.declared.Closed.{Closed}
 use Rattle.closure.specs.declared.Closed.the-variants as closed
-use Rattle.closure.specs.Closes.{partsIn, walkIn, closedOf, Closes}
+use Rattle.closure.specs.Closes.{walkIn, Offsets, closedOf, Closes}
+use Rattle.closure.proofs.Final.{walk-in, glyphs-offsets}
+use Rattle.remapper.proofs.Fills.{roster-left, nothing-left}
 use Rattle.plan.specs.Steps.{fileFrom}
 use Rattle.plan.specs.declared.Source.{Source}
 use Rattle.plan.specs.Sources.{fontOf, Opens, Walked, Kept}
 use Rattle.subset.specs.Calls.{Rewrites, Cuts}
 use Rattle.subset.proofs.Call.{made-refused, made-from}
 
--- n is at most 65,536, and loca has n + 1 entries if there is a glyph
-pub at-most : (w : Width) (loca : Bytes) → glyphs w loca ≤ 65536
-at-most w loca = min-le-left 65536 (length loca / entrySize w - 1)
-
-entries-there : (w : Width) (loca : Bytes) → 0 < glyphs w loca → entrySize w * (glyphs w loca + 1) ≤ length loca
-entries-there short loca h = omega (arith, min-le-right 65536 (length loca / 2 - 1))
-entries-there long loca h = omega (arith, min-le-right 65536 (length loca / 4 - 1))
-
-pub offsets : (font : Bytes) (s : Source) → Opens font s → (loca : Bytes) → loca ≡ (fontOf font s) .loca → 0 < s .n → entrySize (width (s .long)) * (s .n + 1) ≤ length loca
-offsets font s o loca e h =
-    let w = widthOf ((fontOf font s) .head) in
-    subst (λ (l : Bytes). entrySize (width (s .long)) * (s .n + 1) ≤ length l) (sym e)
-    (subst (λ (v : Width). entrySize v * (s .n + 1) ≤ length ((fontOf font s) .loca)) (sym (o .wide))
-    (subst (λ (n : ℕ). entrySize w * (n + 1) ≤ length ((fontOf font s) .loca)) (sym (o .number)) (entries-there w ((fontOf font s) .loca) (omega (arith, o .number)))))
-
--- the walk over what the code is lent is the walk of the font's tables
-pub walk-in : (t : Tables) (wide : Bool) (n : ℕ) (ids : List ℕ) → width wide ≡ widthOf (t .head) → n ≡ count t
-    → walkIn (width wide) n (t .loca) (t .glyf) ids ≡ closure t ids
-unfolding walkIn partsIn closure partsOf outlineOf
-walk-in t wide n ids w e =
-    ap₂ (λ (w : Width) (n : ℕ). walk (2 + length ids + n * length (t .glyf)) n (λ g. mapRes Rattle.model.specs.Outline.components (Rattle.model.specs.Glyf.glyphBytes w (t .loca) (t .glyf) g >>= λ b. Rattle.model.specs.Outline.outline n b)) ids) w e
+-- loca has the offsets that the walk reads
+pub offsets : (font : Bytes) (s : Source) → Opens font s → (loca : Bytes) → loca ≡ (fontOf font s) .loca → Offsets (width (s .long)) (s .n) loca
+offsets font s o loca e =
+    subst (Offsets (width (s .long)) (s .n)) (sym e)
+    (subst (λ (w : Width). Offsets w (s .n) ((fontOf font s) .loca)) (sym (o .wide))
+    (subst (λ (n : ℕ). Offsets (widthOf ((fontOf font s) .head)) n ((fontOf font s) .loca)) (sym (o .number)) (glyphs-offsets (widthOf ((fontOf font s) .head)) ((fontOf font s) .loca))))
 
 -- what stands in the scratch once the first 4n places are cleared but for the roster
-pub cleared : (d : Bytes) (before after : List ℕ) (n : ℕ) (m : Res Made) (from : ℕ) → from ≡ last (length d) m .kept
-    → length after ≡ length before → 4 * n ≤ length before → drop (4 * n) after ≡ drop (4 * n) before
+pub cleared : (d : Bytes) (before after : List ℕ) (n : ℕ) (m : Res Made) (from : ℕ) → from ≡ last (length d) m .kept → drop (4 * n) after ≡ drop (4 * n) before
     → ((v : Made) → m ≡ ok v → (take (length (v .roster)) after ≡ v .roster) × (length (v .roster) ≤ 4 * n))
     → put after from (replicate (4 * n - from) 0) ≡ placesFrom (4 * n) (length d) m ++ drop (4 * n) before
-unfolding put
-cleared d before after n m from e l s p r = go m e r
-  where
-    tail : (from : ℕ) → from ≤ 4 * n → drop (from + length (replicate {A = ℕ} (4 * n - from) 0)) after ≡ drop (4 * n) before
-    tail from h = ap (λ (k : ℕ). drop k after) (lengths from h) ∙ p
-      where
-        lengths : (from : ℕ) → from ≤ 4 * n → from + length (replicate {A = ℕ} (4 * n - from) 0) ≡ 4 * n
-        lengths from h = omega (arith, length-replicate {A = ℕ} (4 * n - from) 0)
-
-    none : (from : ℕ) → from ≡ 0 → take from after ++ replicate (4 * n - from) 0 ++ drop (from + length (replicate {A = ℕ} (4 * n - from) 0)) after ≡ replicate (4 * n) 0 ++ drop (4 * n) before
-    none from q = rw q (ap (λ (k : ℕ). replicate k 0 ++ drop (0 + length (replicate {A = ℕ} (4 * n - 0) 0)) after) (less n) ∙ ap (λ (x : List ℕ). replicate (4 * n) 0 ++ x) (tail 0 (omega arith)))
-      where
-        less : (n : ℕ) → 4 * n - 0 ≡ 4 * n
-        less n = omega arith
-
-    go : (m : Res Made) → from ≡ last (length d) m .kept → ((v : Made) → m ≡ ok v → (take (length (v .roster)) after ≡ v .roster) × (length (v .roster) ≤ 4 * n))
-        → take from after ++ replicate (4 * n - from) 0 ++ drop (from + length (replicate {A = ℕ} (4 * n - from) 0)) after ≡ placesFrom (4 * n) (length d) m ++ drop (4 * n) before
-    go (refuse k) e r = none from e
-    go (ok v) e r =
-        by (leb (length (v .bytes)) (length d))
-        (λ t. let q : from ≡ length (v .roster) = e ∙ ap (λ (b : Bool). delivered b v .kept) t in
-        rw (t, q) (ap₂ (λ (x y : List ℕ). x ++ replicate (4 * n - length (v .roster)) 0 ++ y) (r v refl .0) (tail (length (v .roster)) (r v refl .1))))
-        (λ t. rw t (none from (e ∙ ap (λ (b : Bool). delivered b v .kept) t)))
+cleared d before after n (refuse k) from e p r = rw (e, sub-zero) (nothing-left n before after p)
+cleared d before after n (ok v) from e p r =
+    by (leb (length (v .bytes)) (length d))
+    (λ t. rw (t, e, t) (roster-left n before after (v .roster) (r v refl .0) p (r v refl .1)))
+    (λ t. rw (t, e, t, sub-zero) (nothing-left n before after p))
 
 -- a plan's file has the walk's roster
 pub file-roster : (t : Tables) (r : List ℕ) (rest : Res CutFont) (v : Made) → ((c : CutFont) → rest ≡ ok c → c .roster ≡ r) → fileFrom rest ≡ ok v → v .roster ≡ r
@@ -111,7 +78,8 @@ module _ (font : Bytes) (s : Source) (ids before after : List ℕ) (o : Opens fo
     (loca glyf : Bytes) (is-loca : loca ≡ (fontOf font s) .loca) (is-glyf : glyf ≡ (fontOf font s) .glyf)
     (answer : Closed) (v : Closes (walkIn (width (s .long)) (s .n) loca glyf ids) (s .n) before after answer) where
   walked : walkIn (width (s .long)) (s .n) loca glyf ids ≡ closure (fontOf font s) ids
-  walked = ap₂ (λ (l g : Bytes). walkIn (width (s .long)) (s .n) l g ids) is-loca is-glyf ∙ walk-in (fontOf font s) (s .long) (s .n) ids (o .wide) (o .number)
+  walked = ap₂ (λ (l g : Bytes). walkIn (width (s .long)) (s .n) l g ids) is-loca is-glyf
+      ∙ ap₂ (λ (w : Width) (n : ℕ). walkIn w n ((fontOf font s) .loca) ((fontOf font s) .glyf) ids) (o .wide) (o .number) ∙ sym (walk-in (fontOf font s) ids)
 
   pub walk-refused : (k : ℕ) → answer ≡ closed.No k → (d : Bytes) → Cuts (fontOf font s) ids (s .n) before after d d (case.No k)
   walk-refused k e d =
@@ -144,16 +112,10 @@ module _ (font : Bytes) (s : Source) (ids before after : List ℕ) (o : Opens fo
         space = omega (arith, same);
       }
 
-pub take-take : (j m : ℕ) (l : List ℕ) → j ≤ m → take j (take m l) ≡ take j l
-take-take zero m l h = refl
-take-take (suc j) zero l h = absurd (omega arith)
-take-take (suc j) (suc m) [] h = refl
-take-take (suc j) (suc m) (x ∷ l) h = ap (λ (r : List ℕ). x ∷ r) (take-take j m l (omega arith))
-
 -- what the roster's rest gives, as the whole
-pub from-walk : (t : Tables) (n : ℕ) (ids : List ℕ) (kept : ℕ) (before middle after : List ℕ) (d e : Bytes) (a : Answers) → closure t ids ≡ ok (take kept middle) → kept ≤ n → kept ≤ length middle
+pub from-walk : (t : Tables) (n : ℕ) (ids : List ℕ) (kept : ℕ) (before middle after : List ℕ) (d e : Bytes) (a : Answers) → closure t ids ≡ ok (take kept middle) → kept ≤ length middle → take kept after ≡ take kept middle
     → length middle ≡ length before → drop (4 * n) middle ≡ drop (4 * n) before → Rewrites t (take kept middle) n middle after d e a → Cuts t ids n before after d e a
-from-walk t n ids kept before middle after d e a c k l same past v =
+from-walk t n ids kept before middle after d e a c l stays same past v =
     let m = made-from t ids (take kept middle) c in
     record {
       answers = v .answers ∙ sym (ap (last (length d)) m);
@@ -165,10 +127,4 @@ from-walk t n ids kept before middle after d e a c k l same past v =
   where
     stands : (w : Made) → w .roster ≡ take kept middle → take (length (w .roster)) after ≡ w .roster
     stands w q =
-        let j = length-take-le kept middle l in
-        ap (λ (r : List ℕ). take (length r) after) q
-        ∙ ap (λ (i : ℕ). take i after) j
-        ∙ sym (take-take kept (2 * n) after (omega arith))
-        ∙ ap (take kept) (v .leaves .front)
-        ∙ take-take kept (2 * n) middle (omega arith)
-        ∙ sym q
+        ap (λ (r : List ℕ). take (length r) after) q ∙ ap (λ (i : ℕ). take i after) (length-take-le kept middle l) ∙ stays ∙ sym q

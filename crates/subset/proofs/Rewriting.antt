@@ -1,43 +1,25 @@
 -- Steps 6 to 10, case by case, from what the plan found.
-use mathlib.Core.Path.{_≡_, refl, sym, ap, _∙_, subst}
+use mathlib.Core.Path.{_≡_, refl, sym, ap, _∙_}
 use mathlib.Core.Bool.{Bool, true, false}
-use mathlib.Core.Option.{Option}
 use mathlib.Core.List.{List}
-use Prim.Native.Nat.{ℕ, _+_, _*_, _≤_, _<_}
+use Prim.Native.Nat.{ℕ, _≤_, _<_}
 use native.Mathlib.Omega.{arith}
 use lib.ListN.{length, take}
-use Rattle.model.specs.Res.{Res, refuse, ok, each, isOk, valueOf, _>>=_, _>>_}
+use Rattle.model.specs.Res.{Res, refuse, ok, each, isOk}
 use Rattle.model.specs.Bytes.{Bytes, over, place}
 use Rattle.model.specs.Font.{Tables}
-use Rattle.model.specs.Metrics.{metrics}
-use Rattle.model.specs.Name.{cutName}
-use Rattle.model.specs.Post.{cutPost}
 use Rattle.model.specs.File.{entries, file}
-use Rattle.model.specs.Cut.{CutFont, pieceOf, optional, rewrite}
-use Rattle.model.specs.Call.{Made, last, outFrom}
+use Rattle.model.specs.Cut.{CutFont, pieceOf, rewrite}
+use Rattle.model.specs.Call.{last, outFrom}
 use Rattle.model.proofs.Res.{true-false}
-use Rattle.answer.specs.declared.Answer.{Answer}
 use Rattle.answer.specs.declared.Answer.the-variants as case
 use Rattle.answer.specs.Answers.{answerOf}
-use Rattle.construct.specs.Construct.{laidOut}
 use Rattle.plan.specs.declared.Plan.{Plan}
 use Rattle.plan.specs.Steps.{refusalOf, renewed, fileFrom}
-use Rattle.plan.specs.Sources.{Kept, Found, Planned}
+use Rattle.plan.specs.Sources.{Planned}
+use Rattle.plan.proofs.Planning.{rewrite-made}
 use Rattle.subset.specs.Calls.{Rewrites}
-use Rattle.subset.proofs.Call.{rewrite-steps, too-long, long-enough, no-room, room}
-
--- a chain of steps that passes ends in its value
-passes : {A B C D : Type 0} (a : Res A) (b : Res B) (c : Res C) (d : D) → isOk (a >> (b >> (c >> ok d))) ≡ true → (a >> (b >> (c >> ok d))) ≡ ok d
-passes (refuse k) b c d e = true-false (sym e)
-passes (ok x) (refuse k) c d e = true-false (sym e)
-passes (ok x) (ok y) (refuse k) d e = true-false (sym e)
-passes (ok x) (ok y) (ok z) d e = refl
-
-module _ (t : Tables) (r : List ℕ) (pieces : isOk (each (pieceOf t (place r)) r) ≡ true) where
-  pub rewritten-as : isOk (rewrite t r) ≡ true → rewrite t r ≡ ok (record { roster = r; tables = renewed t r })
-  rewritten-as e =
-      let s = rewrite-steps t r pieces in
-      s ∙ passes (metrics (t .hhea) (t .hmtx) r) (optional cutName (t .name)) (optional (λ b. cutPost b r) (t .post)) (record { roster = r; tables = renewed t r }) (ap isOk (sym s) ∙ e)
+use Rattle.subset.proofs.Call.{too-long, long-enough, no-room, room}
 
 refuses : (d : Bytes) (m : Res CutFont) (fits : Bool) (k : ℕ) → fits ≡ isOk m → k ≡ refusalOf m → fits ≡ false
     → (answerOf (case.No k) ≡ last (length d) (fileFrom m)) × (d ≡ outFrom d (fileFrom m))
@@ -54,7 +36,7 @@ rewrite-refused t n kept before after d p v h =
 module _ (t : Tables) (n kept : ℕ) (before after : List ℕ) (d : Bytes) (p : Plan) (v : Planned (rewrite t (take kept before)) t n kept before after p) (h : p .fits ≡ true)
     (pieces : isOk (each (pieceOf t (place (take kept before))) (take kept before)) ≡ true) where
   is-ok : rewrite t (take kept before) ≡ ok (record { roster = take kept before; tables = renewed t (take kept before) })
-  is-ok = rewritten-as t (take kept before) pieces (sym (v .fits) ∙ h)
+  is-ok = rewrite-made t (take kept before) pieces (sym (v .fits) ∙ h)
 
   pub rewrite-long : 4294967295 < length (file (entries (renewed t (take kept before)))) → Rewrites t (take kept before) n before after d d (case.No 5)
   rewrite-long l =

@@ -1,18 +1,17 @@
 -- The whole call: refused before step 5, or cut and cleared.
-use mathlib.Core.Path.{_≡_, refl, sym, ap, ap₂, _∙_, subst}
-use mathlib.Core.Bool.{Bool, true, false}
+use mathlib.Core.Path.{_≡_, refl, sym, ap, _∙_, subst}
 use mathlib.Core.List.{List, _++_}
 use Prim.Native.Nat.{ℕ, _+_, _*_, _-_, _≤_, _<_}
 use native.Mathlib.Omega.{arith}
-use lib.Dec.{leb, eqb}
-use lib.ListN.{length, take, drop, replicate}
+use lib.Dec.{leb}
+use lib.ListN.{length, drop, replicate}
 use borrow.Author.Tests.{eq-eqb, ne-eqb}
-use Rattle.model.specs.Res.{Res, refuse, ok, pick, _>>=_}
+use Rattle.model.specs.Res.{Res, refuse, ok, _>>=_}
 use Rattle.model.specs.Bytes.{Bytes, put}
 use Rattle.model.specs.Font.{Tables, Entry, read, faceStart, directory, gather, usable, find, must, GLYF, LOCA, HEAD, HHEA, HMTX, MAXP}
 use Rattle.model.specs.Glyf.{widthOf}
 use Rattle.model.specs.File.{entries, file}
-use Rattle.model.specs.Cut.{CutFont, count, closure, cutTables}
+use Rattle.model.specs.Cut.{count, closure, cutTables}
 use Rattle.model.specs.Call.{Input, Made, Promise, ready, made, last, answer, placesFrom, Answer as Answers}
 use Rattle.model.proofs.Res.{pick-true, pick-false, bind-inv, need-inv, ok-inj}
 use Rattle.model.proofs.Members.{by, in-under}
@@ -22,14 +21,15 @@ use Rattle.model.proofs.Must.{must-inv}
 use Rattle.answer.specs.declared.Answer.{Answer}
 use Rattle.answer.specs.declared.Answer.the-variants as case
 use Rattle.answer.specs.Answers.{answerOf}
-use Rattle.places.specs.Places.{contents, Within}
+use Rattle.places.specs.Places.{contents}
 use Rattle.face.specs.declared.Face.{Face}
-use Rattle.face.specs.Opening.{faceOf, Opened}
+use Rattle.face.specs.Opening.{Opened}
+use Rattle.closure.proofs.Final.{glyphs-small}
 use Rattle.plan.specs.declared.Source.{Source}
 use Rattle.plan.specs.Sources.{fontOf, Long, Opens}
 use Rattle.subset.specs.Calls.{lent, Cuts}
 use Rattle.subset.proofs.Call.{not-ready, read-refuses, scratch-short, is-ready, from-made}
-use Rattle.subset.proofs.Cutting.{at-most, cleared, rewrite-roster}
+use Rattle.subset.proofs.Cutting.{cleared, rewrite-roster}
 
 -- step 3's least lengths, of a font that was read
 gathered : (es : List Entry) (t : Tables) → gather es ≡ ok t → Long t
@@ -106,7 +106,7 @@ module _ (font : Bytes) (index : ℕ) (ids scratch : List ℕ) (out : Bytes) whe
         from-made (lent font index ids scratch out) (fontOf font s) m (answerOf a) e z
         (is-ready (lent font index ids scratch out) (fontOf font s) r (subst (λ (n : ℕ). 4 * n ≤ length scratch) (o .number) h)) refl (v .answers) (v .writes)
         (q
-        ∙ cleared out scratch after (s .n) m from (f ∙ ap (λ (x : Answers). x .kept) (v .answers)) (v .same-length) h (v .past) (λ w e. (v .roster w e, few w e))
+        ∙ cleared out scratch after (s .n) m from (f ∙ ap (λ (x : Answers). x .kept) (v .answers)) (v .past) (λ w e. (v .roster w e, few w e))
         ∙ ap (λ (n : ℕ). placesFrom (4 * n) (length out) m ++ drop (4 * n) scratch) (o .number))
 
 -- N is at most 65,536, whatever the call
@@ -118,7 +118,7 @@ answer-few x = go (ready x)
     cut t (refuse k) e = omega arith
     cut t (ok w) e =
         by (leb (length (w .bytes)) (length (x .out)))
-        (λ q. rw q (omega (arith, roster-few t (x .ids) w e, at-most (widthOf (t .head)) (t .loca))))
+        (λ q. rw q (omega (arith, roster-few t (x .ids) w e, glyphs-small (widthOf (t .head)) (t .loca))))
         (λ q. rw q (omega arith))
 
     go : (r : Res Tables) → last (length (x .out)) (r >>= λ t. made t (x .ids)) .kept ≤ 65536

@@ -1,12 +1,13 @@
 -- What each table's writer asks for, and that its bytes are the new table: from the steps that have passed.
+use mathlib.Core.Logic.{_⊎_, inl, inr}
 use mathlib.Core.Path.{_≡_, refl, sym, ap, ap₂, _∙_, subst}
 use mathlib.Core.Bool.{Bool, true, false}
 use mathlib.Core.Option.{Option, none, some}
 use mathlib.Core.List.{List, []}
-use Prim.Native.Nat.{ℕ, suc, _+_, _*_, _≤_, _<_}
+use Prim.Native.Nat.{ℕ, zero, suc, _+_, _*_, _≤_, _<_}
 use native.Mathlib.Omega.{arith}
+use native.Mathlib.Decide.{decLt}
 use native.Mathlib.Numerals.{add-one}
-use lib.Dec.{lit<}
 use lib.ListN.{length, getD, take}
 use Rattle.model.specs.Res.{Res, refuse, ok, pick, each, mapRes, isOk, valueOf, _>>=_}
 use Rattle.model.specs.Bytes.{Bytes, member, place}
@@ -19,21 +20,20 @@ use Rattle.model.specs.Cut.{CutFont, count, pieceOf, newMaxp, optional, rewrite
 use Rattle.model.proofs.Res.{true-false}
 use Rattle.places.specs.Places.{placeAt, contentAt, optionAt, contents}
 use Rattle.hmtx.specs.Measures.{sizes, metricsOf}
-use Rattle.hmtx.proofs.Step.{Fits, measured-fits}
+use Rattle.hmtx.proofs.Step.{Fits as MetricsFit, measured-fits}
 use Rattle.glyf.specs.Pieces.{pieces, Readable, Numbered, GlyfRoom, LocaRoom}
 use Rattle.glyf.proofs.Pieces.{each-piece-of, value-of, length-pieces}
 use Rattle.glyf.proofs.Tables.{length-newLoca}
 use Rattle.glyf.proofs.Walked.{readable-from, numbered-from}
 use Rattle.post.specs.Post.{Indexed}
-use Rattle.construct.specs.declared.Layout.{Layout}
-use Rattle.construct.specs.Construct.{contentOf, isThere, bodyOf, marks}
+use Rattle.construct.specs.Construct.{bodyOf}
 use Rattle.plan.specs.declared.Source.{Source}
 use Rattle.plan.specs.declared.Plan.{Plan}
 use Rattle.plan.specs.Steps.{renewed, tablesOf, there?, bytesIn}
 use Rattle.plan.specs.Sources.{fontOf}
 use Rattle.plan.proofs.Rostered as rostered
-use Rattle.tables.specs.Writing.{newBody, Writes}
-use Rattle.tables.proofs.Standing.{lentPart, lent-room, body-is, mark-is, marked, body-small, spot, spot-of}
+use Rattle.tables.specs.Writing.{newBody, Ran, Fits}
+use Rattle.tables.proofs.Standing.{body-is}
 use Rattle.tables.proofs.Lengths.{offsets-fit, length-newHead, length-newHhea, length-newMaxp}
 
 -- what hmtx's writer asks for
@@ -69,10 +69,10 @@ steps (ok bs) (ok ms) (ok name) (ok post) f e = (refl, refl, refl)
 record Cut (f : Bytes → Res Bytes) (x : Bytes) (o : Option Bytes) (present : Bool) : Type 0 where
   old : present ≡ true
   good : isOk (f x) ≡ true
-  same : valueOf [] (f x) ≡ contentOf o
+  same : valueOf [] (f x) ≡ bytesIn o
 
 cut-there : (f : Bytes → Res Bytes) (b : Bool) (x : Bytes) → isOk (optional f (pick b (some x) none)) ≡ true
-    → isThere (valueOf none (optional f (pick b (some x) none))) ≡ true → Cut f x (valueOf none (optional f (pick b (some x) none))) b
+    → there? (valueOf none (optional f (pick b (some x) none))) ≡ true → Cut f x (valueOf none (optional f (pick b (some x) none))) b
 cut-there f false x e t = true-false (sym t)
 cut-there f true x e t = go (f x) refl e
   where
@@ -84,7 +84,37 @@ copied-there : (b : Bool) (x : Bytes) → there? (pick b (some x) none) ≡ true
 copied-there true x e = refl
 copied-there false x e = true-false (sym e)
 
-module _ {font : Bytes} {s : Source} {scratch : List ℕ} {kept : ℕ} {p : Plan} {new : Layout} (w : Writes font s scratch kept p new) where
+-- by its number
+pub at-number : {font : Bytes} {s : Source} {scratch : List ℕ} {kept : ℕ} {p : Plan} {out : Bytes} {k j : ℕ} → k ≡ j
+    → Fits font s scratch kept p k out → Fits font s scratch kept p j out
+at-number {font = font} {s = s} {scratch = scratch} {kept = kept} {p = p} {out = out} e f = subst (λ (n : ℕ). Fits font s scratch kept p n out) e f
+
+-- which tables are copied
+abbrev pub Copied : ℕ → Type 0
+Copied k = (k ≡ 0) ⊎ ((k ≡ 1) ⊎ (k ≡ 10))
+
+past : (k m : ℕ) → m ≤ k → (k ≡ m → ⊥) → m + 1 ≤ k
+past k m h n = omega arith
+
+first : (k : ℕ) → (k < 2 → ⊥) → 2 ≤ k
+first k n = omega arith
+
+tenth : (k : ℕ) → 10 ≤ k → k < 11 → k ≡ 10
+tenth k l h = omega arith
+
+low : (k : ℕ) → k < 2 → Copied k
+low zero h = inl refl
+low (suc zero) h = inr (inl refl)
+low (suc (suc k)) h = absurd (omega arith)
+
+pub the-others : (k : ℕ) → k < 11 → (k ≡ 2 → ⊥) → (k ≡ 3 → ⊥) → (k ≡ 4 → ⊥) → (k ≡ 5 → ⊥) → (k ≡ 6 → ⊥) → (k ≡ 7 → ⊥) → (k ≡ 8 → ⊥) → (k ≡ 9 → ⊥) → Copied k
+the-others k h n₂ n₃ n₄ n₅ n₆ n₇ n₈ n₉ =
+    elim (decLt k 2) [
+      | yes l ↦ low k l
+      | no g ↦ inr (inr (tenth k (past k 9 (past k 8 (past k 7 (past k 6 (past k 5 (past k 4 (past k 3 (past k 2 (first k g) n₂) n₃) n₄) n₅) n₆) n₇) n₈) n₉) h))
+    ]
+
+module _ {font : Bytes} {s : Source} {scratch : List ℕ} {kept : ℕ} {p : Plan} (w : Ran font s scratch kept p) where
   passed : Passed (fontOf font s) (take kept scratch)
   unfolding rewrite
   passed =
@@ -105,17 +135,16 @@ module _ {font : Bytes} {s : Source} {scratch : List ℕ} {kept : ℕ} {p : Plan
   unfolding newBody bodyOf renewed contents
   head-body = ap (λ (v : Width). newHead v (contentAt font (s .tables) 3)) (w .found .width)
 
-  pub head-room : (out : Bytes) → new .end ≤ length out → (52 ≤ length (contentAt font (s .tables) 3)) × (length (contentAt font (s .tables) 3) ≤ length (lentPart new 3 out))
-  unfolding marks contents
+  pub head-room : (out : Bytes) → length (newBody font s scratch kept 3) ≤ length out → (52 ≤ length (contentAt font (s .tables) 3)) × (length (contentAt font (s .tables) 3) ≤ length out)
+  unfolding contents
   head-room out h =
       let l = w .opens .long .head in
-      let m = lent-room (spot-of w out h 3 (lit< tt) refl) in
       let e = ap length head-body in
       let n = length-newHead (width (p .wide)) (contentAt font (s .tables) 3) l in
       (l, omega arith)
 
   -- hhea and hmtx
-  metrics-fit : Fits (contentAt font (s .tables) 4) (contentAt font (s .tables) 5) (take kept scratch) (p .count)
+  metrics-fit : MetricsFit (contentAt font (s .tables) 4) (contentAt font (s .tables) 5) (take kept scratch) (p .count)
       (length (newHmtx (newCount (metricsOf (contentAt font (s .tables) 4) (contentAt font (s .tables) 5) (take kept scratch))) (metricsOf (contentAt font (s .tables) 4) (contentAt font (s .tables) 5) (take kept scratch))))
   unfolding contents
   metrics-fit =
@@ -130,12 +159,11 @@ module _ {font : Bytes} {s : Source} {scratch : List ℕ} {kept : ℕ} {p : Plan
   unfolding newBody bodyOf renewed contents
   hhea-body = ap (newHhea (contentAt font (s .tables) 4)) (w .found .counted)
 
-  pub hhea-room : (out : Bytes) → new .end ≤ length out
-      → (2 ≤ length (contentAt font (s .tables) 4)) × (length (contentAt font (s .tables) 4) ≤ length (lentPart new 4 out)) × (p .count ≤ 65535)
-  unfolding marks contents
+  pub hhea-room : (out : Bytes) → length (newBody font s scratch kept 4) ≤ length out
+      → (2 ≤ length (contentAt font (s .tables) 4)) × (length (contentAt font (s .tables) 4) ≤ length out) × (p .count ≤ 65535)
+  unfolding contents
   hhea-room out h =
       let l = w .opens .long .hhea in
-      let m = lent-room (spot-of w out h 4 (lit< tt) refl) in
       let e = ap length hhea-body in
       let n = length-newHhea (contentAt font (s .tables) 4) (p .count) (omega arith) in
       let c = metrics-fit .most in
@@ -148,11 +176,10 @@ module _ {font : Bytes} {s : Source} {scratch : List ℕ} {kept : ℕ} {p : Plan
   hmtx-body =
       ap (λ (c : ℕ). newHmtx c (metricsOf (contentAt font (s .tables) 4) (contentAt font (s .tables) 5) (take kept scratch))) (w .found .counted)
 
-  pub hmtx-room : (out : Bytes) → new .end ≤ length out → HmtxRoom (contentAt font (s .tables) 4) (contentAt font (s .tables) 5) (take kept scratch) (p .count) (lentPart new 5 out)
-  unfolding marks contents
+  pub hmtx-room : (out : Bytes) → length (newBody font s scratch kept 5) ≤ length out → HmtxRoom (contentAt font (s .tables) 4) (contentAt font (s .tables) 5) (take kept scratch) (p .count) out
+  unfolding contents
   hmtx-room out h =
       let l = w .opens .long .hhea in
-      let m = lent-room (spot-of w out h 5 (lit< tt) refl) in
       let e = ap length hmtx-body in
       let z = roster-size in
       let f = roster-few in
@@ -194,11 +221,9 @@ module _ {font : Bytes} {s : Source} {scratch : List ℕ} {kept : ℕ} {p : Plan
   unfolding newBody bodyOf renewed
   glyf-body = ap₂ (λ (v : Width) (bs : List Bytes). newGlyf v bs) (w .found .width) pieces-same
 
-  pub glyf-room : (out : Bytes) → new .end ≤ length out
-      → GlyfRoom (width (s .long)) (width (p .wide)) (s .n) (contentAt font (s .tables) 6) (contentAt font (s .tables) 2) scratch kept (lentPart new 2 out)
-  unfolding marks
+  pub glyf-room : (out : Bytes) → length (newBody font s scratch kept 2) ≤ length out
+      → GlyfRoom (width (s .long)) (width (p .wide)) (s .n) (contentAt font (s .tables) 6) (contentAt font (s .tables) 2) scratch kept out
   glyf-room out h =
-      let m = lent-room (spot-of w out h 2 (lit< tt) refl) in
       let e = ap length glyf-body in
       record { numbered = numbered; room = omega arith }
 
@@ -206,16 +231,13 @@ module _ {font : Bytes} {s : Source} {scratch : List ℕ} {kept : ℕ} {p : Plan
   unfolding newBody bodyOf renewed
   loca-body = ap₂ (λ (v : Width) (bs : List Bytes). newLoca v 0 bs) (w .found .width) pieces-same
 
-  pub loca-room : (out : Bytes) → new .end ≤ length out
-      → LocaRoom (width (s .long)) (width (p .wide)) (s .n) (contentAt font (s .tables) 6) (contentAt font (s .tables) 2) (take kept scratch) (lentPart new 6 out)
-  unfolding marks
-  loca-room out h =
+  pub loca-room : (out : Bytes) → length (newBody font s scratch kept 6) ≤ length out → length (newBody font s scratch kept 2) ≤ 4294967295
+      → LocaRoom (width (s .long)) (width (p .wide)) (s .n) (contentAt font (s .tables) 6) (contentAt font (s .tables) 2) (take kept scratch) out
+  loca-room out h z =
       let bs = pieces (width (s .long)) (s .n) (contentAt font (s .tables) 6) (contentAt font (s .tables) 2) (take kept scratch) in
-      let m = lent-room (spot-of w out h 6 (lit< tt) refl) in
       let e = ap length loca-body in
       let n = length-newLoca (width (p .wide)) 0 bs ∙ ap (λ (k : ℕ). entrySize (width (p .wide)) * (k + 1)) (length-pieces readable) in
       let g = ap length glyf-body in
-      let z = body-small w 2 (lit< tt) (marked w 2 (lit< tt)) in
       record {
         readable = readable;
         offsets = offsets-fit (width (p .wide)) bs (w .found .width ∙ ap (λ (x : List Bytes). newWidth (size x)) (sym pieces-same)) (omega arith);
@@ -227,52 +249,55 @@ module _ {font : Bytes} {s : Source} {scratch : List ℕ} {kept : ℕ} {p : Plan
   unfolding newBody bodyOf renewed contents
   maxp-body = ap (newMaxp (contentAt font (s .tables) 7)) (sym roster-size)
 
-  pub maxp-room : (out : Bytes) → new .end ≤ length out → (6 ≤ length (contentAt font (s .tables) 7)) × (length (contentAt font (s .tables) 7) ≤ length (lentPart new 7 out))
-  unfolding marks contents
+  pub maxp-room : (out : Bytes) → length (newBody font s scratch kept 7) ≤ length out → (6 ≤ length (contentAt font (s .tables) 7)) × (length (contentAt font (s .tables) 7) ≤ length out)
+  unfolding contents
   maxp-room out h =
       let l = w .opens .long .maxp in
-      let m = lent-room (spot-of w out h 7 (lit< tt) refl) in
       let e = ap length maxp-body in
       let n = length-newMaxp (contentAt font (s .tables) 7) kept l in
       (l, omega arith)
 
   -- name and post, where they are there
-  module _ (there : (placeAt (new .tables) 8) .present ≡ true) where
+  module _ (there : there? (getD (tablesOf (renewed (fontOf font s) (take kept scratch))) 8 none) ≡ true) where
     name-cut : Cut cutName (contentAt font (s .tables) 8) (valueOf none (optional cutName (optionAt font (s .tables) 8))) ((placeAt (s .tables) 8) .present)
-    unfolding optionAt contents renewed marks
-    name-cut = cut-there cutName ((placeAt (s .tables) 8) .present) (contentAt font (s .tables) 8) (passed .name) (sym (marked w 8 (lit< tt)) ∙ there)
+    unfolding optionAt contents renewed
+    name-cut = cut-there cutName ((placeAt (s .tables) 8) .present) (contentAt font (s .tables) 8) (passed .name) there
 
     pub name-body : valueOf [] (cutName (contentAt font (s .tables) 8)) ≡ newBody font s scratch kept 8
-    unfolding newBody bodyOf renewed contents
-    name-body = name-cut .same
+    unfolding newBody renewed contents
+    name-body = name-cut .same ∙ sym (body-is (renewed (fontOf font s) (take kept scratch)) 8)
 
-    pub name-room : (out : Bytes) → new .end ≤ length out
-        → (isOk (cutName (contentAt font (s .tables) 8)) ≡ true) × (length (valueOf [] (cutName (contentAt font (s .tables) 8))) ≤ length (lentPart new 8 out))
-    name-room out h = let m = lent-room (spot w out h 8 (lit< tt) there) in let e = ap length name-body in (name-cut .good, omega arith)
+    pub name-room : (out : Bytes) → length (newBody font s scratch kept 8) ≤ length out
+        → (isOk (cutName (contentAt font (s .tables) 8)) ≡ true) × (length (valueOf [] (cutName (contentAt font (s .tables) 8))) ≤ length out)
+    name-room out h = let e = ap length name-body in (name-cut .good, omega arith)
 
-  module _ (there : (placeAt (new .tables) 9) .present ≡ true) where
+  module _ (there : there? (getD (tablesOf (renewed (fontOf font s) (take kept scratch))) 9 none) ≡ true) where
     post-cut : Cut (λ b. cutPost b (take kept scratch)) (contentAt font (s .tables) 9) (valueOf none (optional (λ b. cutPost b (take kept scratch)) (optionAt font (s .tables) 9))) ((placeAt (s .tables) 9) .present)
-    unfolding optionAt contents renewed marks
-    post-cut = cut-there (λ b. cutPost b (take kept scratch)) ((placeAt (s .tables) 9) .present) (contentAt font (s .tables) 9) (passed .post) (sym (marked w 9 (lit< tt)) ∙ there)
+    unfolding optionAt contents renewed
+    post-cut = cut-there (λ b. cutPost b (take kept scratch)) ((placeAt (s .tables) 9) .present) (contentAt font (s .tables) 9) (passed .post) there
 
     pub post-body : valueOf [] (cutPost (contentAt font (s .tables) 9) (take kept scratch)) ≡ newBody font s scratch kept 9
-    unfolding newBody bodyOf renewed contents
-    post-body = post-cut .same
+    unfolding newBody renewed contents
+    post-body = post-cut .same ∙ sym (body-is (renewed (fontOf font s) (take kept scratch)) 9)
 
-    pub post-room : (out : Bytes) → new .end ≤ length out → PostRoom (contentAt font (s .tables) 9) scratch (s .n) kept (lentPart new 9 out)
+    pub post-room : (out : Bytes) → length (newBody font s scratch kept 9) ≤ length out → PostRoom (contentAt font (s .tables) 9) scratch (s .n) kept out
     unfolding optionAt contents
     post-room out h =
-        let m = lent-room (spot w out h 9 (lit< tt) there) in
         let e = ap length post-body in
         let index = w .index (contentAt font (s .tables) 9) (ap (λ (b : Bool). pick b (some (contentAt font (s .tables) 9)) none) (post-cut .old)) in
         ((roster-few, rostered.fewer font s scratch kept (w .opens) (w .walked), rostered.most font s scratch kept (w .opens) (w .walked), w .walked .space), (index, (post-cut .good, omega arith)))
 
-  -- cvt, fpgm, prep: the new table is the old one
-  pub copied-same : (k : ℕ) → k < 11 → getD (tablesOf (renewed (fontOf font s) (take kept scratch))) k none ≡ optionAt font (s .tables) k
-      → (placeAt (new .tables) k) .present ≡ true → contentAt font (s .tables) k ≡ newBody font s scratch kept k
+  -- cvt, fpgm, prep
+  copied-same : (k : ℕ) → getD (tablesOf (renewed (fontOf font s) (take kept scratch))) k none ≡ optionAt font (s .tables) k
+      → there? (getD (tablesOf (renewed (fontOf font s) (take kept scratch))) k none) ≡ true → contentAt font (s .tables) k ≡ newBody font s scratch kept k
   unfolding optionAt newBody
-  copied-same k h e there =
-      let c = renewed (fontOf font s) (take kept scratch) in
-      copied-there ((placeAt (s .tables) k) .present) (contentAt font (s .tables) k)
-      (ap there? (sym e) ∙ sym (mark-is c k) ∙ sym (marked w k h) ∙ there)
-      ∙ ap bytesIn (sym e) ∙ sym (body-is c k)
+  copied-same k e there =
+      copied-there ((placeAt (s .tables) k) .present) (contentAt font (s .tables) k) (ap there? (sym e) ∙ there)
+      ∙ ap bytesIn (sym e) ∙ sym (body-is (renewed (fontOf font s) (take kept scratch)) k)
+
+  pub copied-body : (k : ℕ) → Copied k → there? (getD (tablesOf (renewed (fontOf font s) (take kept scratch))) k none) ≡ true
+      → contentAt font (s .tables) k ≡ newBody font s scratch kept k
+  unfolding renewed contents
+  copied-body k (inl e) there = copied-same k (rw e refl) there
+  copied-body k (inr (inl e)) there = copied-same k (rw e refl) there
+  copied-body k (inr (inr e)) there = copied-same k (rw e refl) there

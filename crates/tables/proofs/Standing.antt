@@ -1,15 +1,16 @@
 -- The layout's places are those of the new tables: each is marked if it is there, is as long as its bytes, and has its room in the output.
 use mathlib.Core.Path.{_≡_, refl, sym, ap, _∙_, subst}
-use mathlib.Core.Bool.{Bool, true, false}
+use mathlib.Core.Bool.{true, false}
 use mathlib.Core.Option.{Option, none, some}
 use mathlib.Core.List.{List, []}
-use Prim.Native.Nat.{ℕ, suc, _+_, _-_, _%_, _≤_, _<_}
+use Prim.Native.Nat.{ℕ, _+_, _-_, _%_, _≤_, _<_}
 use native.Mathlib.Omega.{arith}
+use native.Mathlib.Numerals.{add-one}
 use lib.Dec.{lit<}
 use lib.ListN.{length, getD, take, drop, replicate, length-take, length-drop, List·getD-map}
 use borrow.Rule.Slice.PartMut.{putMid}
-use Rattle.model.specs.Bytes.{Bytes, place, put, over, pad4}
-use Rattle.model.specs.Res.{pick, each, valueOf}
+use Rattle.model.specs.Bytes.{Bytes, place, put, over}
+use Rattle.model.specs.Res.{each, valueOf}
 use Rattle.model.specs.Font.{Tables}
 use Rattle.model.specs.Glyf.{size, newWidth}
 use Rattle.model.specs.Cut.{pieceOf}
@@ -18,16 +19,16 @@ use Rattle.model.proofs.Bytes.{length-put}
 use Rattle.model.proofs.Parts.{put-back}
 use Rattle.places.specs.Places.{placeAt}
 use Rattle.construct.specs.declared.Layout.{Layout}
-use Rattle.construct.specs.Construct.{raised, laidOut, laid, contentOf, bodyOf, marks, Marked, Sized, Placed, Ready, Room, Written, writeAt, writeTo}
+use Rattle.construct.specs.Construct.{raised, laidOut, laid, contentOf, bodyOf, marks, Marked, Sized, Placed, Ready, Written, writeAt, writeTo}
 use Rattle.construct.proofs.Files.{raised-room}
 use Rattle.construct.proofs.Placing.{layout-placed, layout-length, layout-present}
-use Rattle.construct.proofs.Readiness.{room-there, place-room}
+use Rattle.construct.proofs.Readiness.{pad-room, place-room}
 use Rattle.construct.proofs.Written.{write-there, written-to, written-ready, length-cut, finish-cut}
 use Rattle.plan.specs.declared.Source.{Source}
 use Rattle.plan.specs.declared.Plan.{Plan}
 use Rattle.plan.specs.Steps.{renewed, tablesOf, there?, bytesIn}
 use Rattle.plan.specs.Sources.{fontOf, Found}
-use Rattle.tables.specs.Writing.{newBody, writeRun, Writes}
+use Rattle.tables.specs.Writing.{newBody, Writes, Fits}
 use Rattle.tables.proofs.Lengths.{length-newHead}
 
 -- the tables by number, as the measures and as the layout have them
@@ -114,77 +115,61 @@ module _ {new : Layout} {k : ℕ} {body out : Bytes} (s : Spot new k body out) w
       write-there new k body out (putMid at (length out - at) out y) o (s .there) (omega arith) (part-back y e)
       (f ∙ ap (λ (n : ℕ). put (putMid at (length out - at) out y) (at + n) (replicate ((4 - n % 4) % 4) 0)) (sym (s .size)))
 
--- of a table that isn't there the bytes don't matter
-pub write-same : (new : Layout) (k : ℕ) (a b out : Bytes) → ((placeAt (new .tables) k) .present ≡ true → a ≡ b) → writeAt new k a out ≡ writeAt new k b out
-unfolding writeAt
-write-same new k a b out h = go ((placeAt (new .tables) k) .present) h
-  where
-    go : (t : Bool) → (t ≡ true → a ≡ b) → pick t (put out ((placeAt (new .tables) k) .offset) (pad4 a)) out ≡ pick t (put out ((placeAt (new .tables) k) .offset) (pad4 b)) out
-    go true e = ap (λ (z : Bytes). put out ((placeAt (new .tables) k) .offset) (pad4 z)) (e refl)
-    go false e = refl
-
--- three tables, and four, one after the other
-module _ (new : Layout) (body : ℕ → Bytes) (i : ℕ) (out : Bytes) where
-  pub run-three : {a b c : Bytes} → a ≡ writeAt new i (body i) out → b ≡ writeAt new (suc i) (body (suc i)) a
-      → c ≡ writeAt new (suc (suc i)) (body (suc (suc i))) b → c ≡ writeRun new body i 3 out
-  unfolding writeRun
-  run-three e f g =
-      g ∙ ap (λ (z : Bytes). writeAt new (suc (suc i)) (body (suc (suc i))) z) (f ∙ ap (λ (z : Bytes). writeAt new (suc i) (body (suc i)) z) e)
-
-  pub run-four : {a b c d : Bytes} → a ≡ writeAt new i (body i) out → b ≡ writeAt new (suc i) (body (suc i)) a
-      → c ≡ writeAt new (suc (suc i)) (body (suc (suc i))) b → d ≡ writeAt new (suc (suc (suc i))) (body (suc (suc (suc i)))) c
-      → d ≡ writeRun new body i 4 out
-  unfolding writeRun
-  run-four e f g h = h ∙ ap (λ (z : Bytes). writeAt new (suc (suc (suc i))) (body (suc (suc (suc i)))) z) (run-three e f g)
+-- one table more
+pub write-more : (new : Layout) (body : ℕ → Bytes) (k : ℕ) (out : Bytes) {a b : Bytes} → a ≡ writeTo new body out k → b ≡ writeAt new k (body k) a
+    → b ≡ writeTo new body out (k + 1)
+unfolding writeTo
+write-more new body k out e f = rw add-one (f ∙ ap (writeAt new k (body k)) e)
 
 module _ {font : Bytes} {s : Source} {scratch : List ℕ} {kept : ℕ} {p : Plan} {new : Layout} (w : Writes font s scratch kept p new) where
   placed : Placed new
-  placed = placed-at (fontOf font s) (take kept scratch) p (w .found) new (w .layout)
+  placed = placed-at (fontOf font s) (take kept scratch) p (w .ran .found) new (w .layout)
 
-  pub marked : Marked (renewed (fontOf font s) (take kept scratch)) (new .tables)
-  marked = marked-at (fontOf font s) (take kept scratch) p (w .found) new (w .layout)
+  marked : Marked (renewed (fontOf font s) (take kept scratch)) (new .tables)
+  marked = marked-at (fontOf font s) (take kept scratch) p (w .ran .found) new (w .layout)
 
   sized : Sized (new .tables) (bodyOf (renewed (fontOf font s) (take kept scratch)))
-  sized = sized-at (fontOf font s) (take kept scratch) p (w .found) new (w .layout)
+  sized = sized-at (fontOf font s) (take kept scratch) p (w .ran .found) new (w .layout)
 
   long : 12 ≤ (placeAt (new .tables) 3) .length
-  long = head-long (fontOf font s) (take kept scratch) p (w .found) new (w .layout) (w .opens .long .head)
+  long = head-long (fontOf font s) (take kept scratch) p (w .ran .found) new (w .layout) (w .ran .opens .long .head)
 
-  -- the new tables are no longer than the file
-  pub body-small : (k : ℕ) → k < 11 → (placeAt (new .tables) k) .present ≡ true → length (newBody font s scratch kept k) ≤ 4294967295
-  unfolding newBody
-  body-small k h there = let m = place-room new placed k h there in let e = sized k h there in let z = w .small in omega arith
+  -- glyf is no longer than the file
+  offsets : length (newBody font s scratch kept 2) ≤ 4294967295
+  unfolding newBody marks
+  offsets =
+      let m = place-room new placed 2 (lit< tt) (marked 2 (lit< tt)) in
+      let e = sized 2 (lit< tt) (marked 2 (lit< tt)) in
+      let z = w .small in
+      omega arith
 
   module _ (out : Bytes) (room : new .end ≤ length out) where
-    pub room-at : (k : ℕ) → k < 11 → (b : Bytes) → ((placeAt (new .tables) k) .present ≡ true → b ≡ newBody font s scratch kept k) → Room out new k (length b)
-    unfolding newBody
-    room-at k h b e = record { placed = placed; known = h; fits = λ t. ap length (e t) ∙ sized k h t; room = room }
-
     pub spot : (k : ℕ) → k < 11 → (placeAt (new .tables) k) .present ≡ true → Spot new k (newBody font s scratch kept k) out
     unfolding newBody
     spot k h there =
         let e = sized k h there in
-        let m = room-there out new k (length (newBody font s scratch kept k)) (room-at k h (newBody font s scratch kept k) (λ t. refl)) there in
+        let m = pad-room new placed k h there in
         let r = raised-room ((placeAt (new .tables) k) .length) in
-        let f = ap raised e in
         record { there = there; size = e; padded = omega arith; inside = omega arith }
 
-    -- one of the six that every font has
-    pub spot-of : (k : ℕ) → k < 11 → there? (getD (tablesOf (renewed (fontOf font s) (take kept scratch))) k none) ≡ true → Spot new k (newBody font s scratch kept k) out
-    spot-of k h e = spot k h (marked k h ∙ mark-is (renewed (fontOf font s) (take kept scratch)) k ∙ e)
+    pub fits : (k : ℕ) → k < 11 → (placeAt (new .tables) k) .present ≡ true → Fits font s scratch kept p k (lentPart new k out)
+    fits k h there =
+        record {
+          ran = w .ran;
+          there = sym (mark-is (renewed (fontOf font s) (take kept scratch)) k) ∙ sym (marked k h) ∙ there;
+          room = lent-room (spot k h there);
+          offsets = offsets;
+        }
 
-    module _ (o₁ o₂ o₃ : Bytes) (e₁ : o₁ ≡ writeRun new (newBody font s scratch kept) 0 4 out) (e₂ : o₂ ≡ writeRun new (newBody font s scratch kept) 4 4 o₁)
-        (e₃ : o₃ ≡ writeRun new (newBody font s scratch kept) 8 3 o₂) where
-      all-written : Written new (bodyOf (renewed (fontOf font s) (take kept scratch))) out o₃ 11
-      unfolding writeRun writeTo newBody
-      all-written =
-          e₃ ∙ ap (writeRun new (newBody font s scratch kept) 8 3) (e₂ ∙ ap (writeRun new (newBody font s scratch kept) 4 4) e₁)
-          ∙ written-to new placed (bodyOf (renewed (fontOf font s) (take kept scratch))) sized out room 11 (omega arith)
+    module _ (o : Bytes) (e : o ≡ writeTo new (newBody font s scratch kept) out 11) where
+      all-written : Written new (bodyOf (renewed (fontOf font s) (take kept scratch))) out o 11
+      unfolding newBody
+      all-written = e ∙ written-to new placed (bodyOf (renewed (fontOf font s) (take kept scratch))) sized out room 11 (omega arith)
 
-      pub all-ready : Ready o₃ new
+      pub all-ready : Ready o new
       unfolding marks
       all-ready =
-          written-ready new placed (bodyOf (renewed (fontOf font s) (take kept scratch))) sized out room o₃ all-written (w .small) (marked 3 (lit< tt)) long
+          written-ready new placed (bodyOf (renewed (fontOf font s) (take kept scratch))) sized out room o all-written (w .small) (marked 3 (lit< tt)) long
 
-      pub all-finished : over (file (laid o₃ (new .tables))) o₃ ≡ over (file (entries (renewed (fontOf font s) (take kept scratch)))) out
-      all-finished = finish-cut (renewed (fontOf font s) (take kept scratch)) new placed marked sized long out o₃ room all-written
+      pub all-finished : over (file (laid o (new .tables))) o ≡ over (file (entries (renewed (fontOf font s) (take kept scratch)))) out
+      all-finished = finish-cut (renewed (fontOf font s) (take kept scratch)) new placed marked sized long out o room all-written

@@ -3,8 +3,9 @@ use native.Mathlib.Omega.{arith}
 use Rattle.model.specs.Glyf.{widthOf}
 use Rattle.places.specs.Places.{contents}
 use Rattle.plan.specs.Sources.{fontOf}
-use Rattle.subset.proofs.Cutting.{at-most, offsets, walk-refused, walk-closes, walk-kept, from-walk}
-use Rattle.subset.proofs.Scratch.{kept-few}
+use Rattle.subset.proofs.Cutting.{offsets, walk-refused, walk-closes, walk-kept, from-walk}
+use Rattle.closure.proofs.Final.{glyphs-small}
+use Rattle.plan.proofs.Planning.{roster-stays}
 use borrow.Author.Needs.{needs}
 use Rattle.subset.proofs.cut.Statement.{statement}
 use Rattle.subset.proofs.cut.Tie as tie
@@ -20,7 +21,7 @@ unfolding contents
 close-over-requires c κs =
     let a = c .before .before .before .before .before .before .before .before .args in
     let o = c .before .before .before .before .before .before .before .before .pre .0 in
-    (omega (arith, o .number, at-most (widthOf ((fontOf (a .font .now) (a .s)) .head)) ((fontOf (a .font .now) (a .s)) .loca)), c .before .before .before .before .before .before .before .before .pre .1, offsets (a .font .now) (a .s) o _ (c .before .before .table .ensures))
+    (omega (arith, o .number, glyphs-small (widthOf ((fontOf (a .font .now) (a .s)) .head)) ((fontOf (a .font .now) (a .s)) .loca)), c .before .before .before .before .before .before .before .before .pre .1, offsets (a .font .now) (a .s) o _ (c .before .before .table .ensures))
 
 enum-known-c : tie.Need-enum-known-c
 enum-known-c c = search needs
@@ -75,7 +76,7 @@ returns-2 c =
     let g = c .before .before .before .before .before .before .before .before .before .before .before .before .before .before .table2 .ensures in
     let k = c .before .before .before .before .before .before .before .before .c2 .given in
     let w = walk-kept (a .font .now) (a .s) (a .ids .now) (a .scratch .now) z o (c .before .before .before .before .before .before .before .before .before .before .before .before .before .before .before .before .before .before .before .before .before .pre .1) same _ _ l g _ v (k .0 .0) (k .1) in
-    from-walk (fontOf (a .font .now) (a .s)) (a .s .n) (a .ids .now) (k .0 .0) (a .scratch .now) z _ (a .out .now) _ _ (walk-closes (a .font .now) (a .s) (a .ids .now) (a .scratch .now) z o (c .before .before .before .before .before .before .before .before .before .before .before .before .before .before .before .before .before .before .before .before .before .pre .1) same _ _ l g _ v (k .0 .0) (k .1)) (kept-few (a .font .now) (a .s) z (k .0 .0) o w) (w .inside) same (v .past) (c .before .before .before .before .rewrite .ensures)
+    from-walk (fontOf (a .font .now) (a .s)) (a .s .n) (a .ids .now) (k .0 .0) (a .scratch .now) z _ (a .out .now) _ _ (walk-closes (a .font .now) (a .s) (a .ids .now) (a .scratch .now) z o (c .before .before .before .before .before .before .before .before .before .before .before .before .before .before .before .before .before .before .before .before .before .pre .1) same _ _ l g _ v (k .0 .0) (k .1)) (w .inside) (roster-stays (a .font .now) (a .s) z _ (k .0 .0) o w (c .before .before .before .before .rewrite .ensures .leaves)) same (v .past) (c .before .before .before .before .rewrite .ensures)
 
 pub cut-spec : {M : Type 1} → statement M
 cut-spec =

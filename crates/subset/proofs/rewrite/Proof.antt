@@ -1,5 +1,5 @@
 -- Each way out is a case of steps 6 to 10.
-use mathlib.Core.Path.{_≡_, sym, ap, _∙_}
+use mathlib.Core.Path.{sym, ap, _∙_}
 use mathlib.Core.List.{List}
 use Prim.Native.Nat.{ℕ}
 use native.Mathlib.Omega.{arith}
@@ -11,7 +11,9 @@ use Rattle.construct.specs.declared.Layout.{Layout}
 use Rattle.plan.specs.Steps.{renewed}
 use Rattle.plan.specs.Sources.{fontOf}
 use Rattle.subset.proofs.Rewriting.{rewrite-refused, rewrite-long, rewrite-short, rewrite-done}
-use Rattle.subset.proofs.Scratch.{pieces-fine, roster-size, same-roster, writes-from}
+use Rattle.plan.proofs.Rostered.{size, pieces-fine}
+use Rattle.plan.proofs.Planning.{roster-stays}
+use Rattle.subset.proofs.Scratch.{writes-from}
 use Rattle.tables.proofs.Standing.{file-length}
 use Rattle.subset.proofs.Lengths.{file-holds}
 use borrow.Author.Needs.{needs}
@@ -127,8 +129,8 @@ returns-5 c =
     let pieces = pieces-fine (a .font .now) (a .s) (a .scratch .now) (a .kept) o w in
     let e = c .before .before .before .before .before .before .before .lay-out .ensures in
     let l = file-length T (take (a .kept) (a .scratch .now)) p (v .found f) (o .long .head) ∙ ap (λ (x : Layout). x .end) (sym e) in
-    let r = same-roster (a .font .now) (a .s) (a .scratch .now) (a .kept) o w z (v .untouched) in
-    rewrite-done T (a .s .n) (a .kept) (a .scratch .now) z (a .out .now) p v f pieces _ l (c .before .before .before .before .before .before .if3 .left) (c .before .before .before .before .before .if4 .left) (roster-size (a .font .now) (a .s) (a .scratch .now) (a .kept) o w) _ (c .before .before .write-file .ensures ∙ ap (λ (q : List ℕ). over (file (entries (renewed T q))) (a .out .now)) r)
+    let r = roster-stays (a .font .now) (a .s) (a .scratch .now) z (a .kept) o w (v .untouched) in
+    rewrite-done T (a .s .n) (a .kept) (a .scratch .now) z (a .out .now) p v f pieces _ l (c .before .before .before .before .before .before .if3 .left) (c .before .before .before .before .before .if4 .left) (size (a .font .now) (a .s) (a .scratch .now) (a .kept) o w) _ (c .before .before .write-file .ensures ∙ ap (λ (q : List ℕ). over (file (entries (renewed T q))) (a .out .now)) r)
 
 pub rewrite-spec : {M : Type 1} → statement M
 rewrite-spec =

@@ -1,7 +1,7 @@
 use Prim.Native.Nat.{_/_, _%_}
 use native.Mathlib.Omega.{arith}
 use borrow.Author.Needs.{needs}
-use Rattle.model.specs.Bytes.{put, be16, be32}
+use Rattle.model.specs.Bytes.{be16}
 use Rattle.model.proofs.Bytes.{put-put}
 use Rattle.write.proofs.put_u32.Statement.{statement}
 use Rattle.write.proofs.put_u32.Tie as tie
