@@ -1,0 +1,5 @@
+pub mod Machine
+pub mod Width
+pub mod Rows
+pub mod Bounds
+pub mod List
