@@ -15,32 +15,17 @@ struct Question {
     set: usize,
 }
 
-// The 32-bit number at a place; 0 if it is cut.
-fn word(b: &[u8], at: usize) -> u32 {
-    if b.len() < at {
-        return 0;
-    }
-    if b.len() - at < 4 {
-        return 0;
-    }
-    read::u32_at(b, at)
-}
-
-fn size(b: &[u8], at: usize) -> usize {
-    word(b, at) as usize
-}
-
 fn read_head(head: &[u8]) -> Question {
     Question {
-        index: word(head, 0),
-        ids: size(head, 4),
-        scratch: size(head, 8),
-        out: size(head, 12),
-        font: size(head, 16),
-        refusal: word(head, 20),
-        kept: size(head, 24),
-        length: size(head, 28),
-        set: size(head, 32),
+        index: records::word(head, 0),
+        ids: records::size(head, 4),
+        scratch: records::size(head, 8),
+        out: records::size(head, 12),
+        font: records::size(head, 16),
+        refusal: records::word(head, 20),
+        kept: records::size(head, 24),
+        length: records::size(head, 28),
+        set: records::size(head, 32),
     }
 }
 
@@ -67,37 +52,6 @@ fn fill_bytes(out: &mut [u8]) {
         out[i] = byte_before(i);
         i += 1;
     }
-}
-
-// The next n bytes of the file.
-fn take_bytes(file: i32, n: usize, bytes: &mut [u8]) -> bool {
-    if bytes.len() < n {
-        return false;
-    }
-    io::read_full(file, &mut bytes[..n]) == n
-}
-
-// The next number of the file, of 16 bits; 0 at its end.
-fn take_number(file: i32) -> u16 {
-    let mut two = [0u8; 2];
-    let n = io::read_full(file, &mut two);
-    if n < 2 {
-        return 0;
-    }
-    read::u16_at(&two[..n], 0)
-}
-
-// The next n of them.
-fn take_numbers(file: i32, n: usize, numbers: &mut [u16]) -> bool {
-    if numbers.len() < n {
-        return false;
-    }
-    let mut i = 0;
-    while i < n {
-        numbers[i] = take_number(file);
-        i += 1;
-    }
-    true
 }
 
 // Is the answer the one expected.
@@ -188,10 +142,10 @@ fn compare(file: i32, q: Question, scratch: &[u16], out: &[u8]) -> bool {
     let mut bytes = [0u8; 32768];
     let n = given(q.refusal, q.kept);
     let l = given(q.refusal, q.length);
-    if !take_numbers(file, n, &mut roster) {
+    if !records::take_numbers(file, n, &mut roster) {
         return false;
     }
-    if !take_bytes(file, l, &mut bytes) {
+    if !records::take_bytes(file, l, &mut bytes) {
         return false;
     }
     same_places(scratch, &roster, n, q.set) && same_bytes(out, &bytes, l)
@@ -210,10 +164,10 @@ fn judge(file: i32, q: Question, font: &[u8], ids: &[u16]) -> bool {
 fn ask(file: i32, q: Question) -> bool {
     let mut ids = [0u16; 1024];
     let mut font = [0u8; 32768];
-    if !take_numbers(file, q.ids, &mut ids) {
+    if !records::take_numbers(file, q.ids, &mut ids) {
         return false;
     }
-    if !take_bytes(file, q.font, &mut font) {
+    if !records::take_bytes(file, q.font, &mut font) {
         return false;
     }
     judge(file, q, &font, &ids)
@@ -230,7 +184,7 @@ fn same(file: i32) -> bool {
 fn count(file: i32) -> u32 {
     let mut head = [0u8; 8];
     let n = io::read_full(file, &mut head);
-    word(&head[..n], 4)
+    records::word(&head[..n], 4)
 }
 
 fn differing(file: i32, answers: u32) -> u32 {

@@ -4,9 +4,6 @@ use mathlib.Core.Path.{_≡_}
 use Prim.Native.Nat.{_-_, _≤_}
 use Rattle.replay.proofs.fill_bytes.Statement.{statement}
 use Rattle.replay.proofs.fill_bytes.Tie as tie
-use Rattle.replay.proofs.fill_bytes.Reads as reads
-use Rattle.replay.proofs.fill_bytes.Lts as lts
-use Rattle.replay.proofs.byte_before.Reads as byte-before-reads
 
 abbrev Inv-loop : tie.InvT-loop
 Inv-loop out₀ i₀ out i = (i ≤ length out₀) × (length out ≡ length out₀)
@@ -14,35 +11,27 @@ Inv-loop out₀ i₀ out i = (i ≤ length out₀) × (length out ≡ length out
 abbrev μ-loop : tie.MeasureT-loop
 μ-loop out₀ i₀ out i = length out₀ - i
 
--- src/main.rt:66:5
 loop-holds : tie.Need-loop-holds Inv-loop μ-loop
 loop-holds c = search needs
 
--- src/main.rt:67:18
 byte-before-requires : tie.Need-byte-before-requires Inv-loop μ-loop
 byte-before-requires c κs = search needs
 
--- src/main.rt:67:9
 slice-write-out : tie.Need-slice-write-out Inv-loop μ-loop
 slice-write-out c = search needs
 
--- src/main.rt:68:9
 add-i : tie.Need-add-i Inv-loop μ-loop
 add-i c = search needs
 
--- src/main.rt:66:5
 loop-less : tie.Need-loop-less Inv-loop μ-loop
 loop-less c = search needs
 
--- src/main.rt:66:5
 loop-again : tie.Need-loop-again Inv-loop μ-loop
 loop-again c = search needs
 
--- src/main.rt:64:1
 same-length : tie.Need-same-length Inv-loop μ-loop
 same-length c = search needs
 
--- src/main.rt:64:1
 returns : tie.Need-returns Inv-loop μ-loop
 returns c = search needs
 

@@ -1,12 +1,8 @@
 use borrow.Author.Needs.{needs}
 use lib.ListN.{length}
-use mathlib.Core.Path.{_≡_}
 use Prim.Native.Nat.{_-_, _≤_}
 use Rattle.replay.proofs.same_places.Statement.{statement}
 use Rattle.replay.proofs.same_places.Tie as tie
-use Rattle.replay.proofs.same_places.Reads as reads
-use Rattle.replay.proofs.same_places.Lts as lts
-use Rattle.replay.proofs.place_after.Reads as place-after-reads
 
 abbrev Inv-loop : tie.InvT-loop
 Inv-loop scratch roster n set i₀ i = i ≤ length scratch
@@ -14,39 +10,30 @@ Inv-loop scratch roster n set i₀ i = i ≤ length scratch
 abbrev μ-loop : tie.MeasureT-loop
 μ-loop scratch roster n set i₀ i = length scratch - i
 
--- src/main.rt:143:5
 loop-holds : tie.Need-loop-holds Inv-loop μ-loop
 loop-holds c = search needs
 
--- src/main.rt:144:12
 mul-if1 : tie.Need-mul-if1 Inv-loop μ-loop
 mul-if1 c = search needs
 
--- src/main.rt:144:12
 shared-slice-read-if1 : tie.Need-shared-slice-read-if1 Inv-loop μ-loop
 shared-slice-read-if1 c = search needs
 
--- src/main.rt:144:26
 place-after-requires : tie.Need-place-after-requires Inv-loop μ-loop
 place-after-requires c κs = search needs
 
--- src/main.rt:145:13
 returns : tie.Need-returns Inv-loop μ-loop
 returns c = search needs
 
--- src/main.rt:147:9
 add-i : tie.Need-add-i Inv-loop μ-loop
 add-i c = search needs
 
--- src/main.rt:143:5
 loop-less : tie.Need-loop-less Inv-loop μ-loop
 loop-less c = search needs
 
--- src/main.rt:143:5
 loop-again : tie.Need-loop-again Inv-loop μ-loop
 loop-again c = search needs
 
--- src/main.rt:141:1
 returns-2 : tie.Need-returns-2 Inv-loop μ-loop
 returns-2 c = search needs
 

@@ -2,35 +2,26 @@ use lib.Seq.{length-take-le}
 use native.Mathlib.Omega.{arith}
 use mathlib.Core.Path.{sym}
 use borrow.Author.Needs.{needs}
-use Rattle.replay.proofs.take_bytes.Statement.{statement}
-use Rattle.replay.proofs.take_bytes.Tie as tie
-use Rattle.replay.proofs.take_bytes.Reads as reads
-use Rattle.replay.proofs.take_bytes.Lts as lts
-use Rattle.io.proofs.read_full.Reads as read-full-reads
+use Rattle.records.proofs.take_bytes.Statement.{statement}
+use Rattle.records.proofs.take_bytes.Tie as tie
 
--- src/main.rt:75:9
 returns : tie.Need-returns
 returns c = search needs
 
--- src/main.rt:77:25
 slice-relend-prefix-read-full : tie.Need-slice-relend-prefix-read-full
 slice-relend-prefix-read-full c = search needs
 
--- src/main.rt:77:25
 slice-aggregate-read-full : tie.Need-slice-aggregate-read-full
 slice-aggregate-read-full c =
     let a = c .before .before .before .args in
     sym (length-take-le (a .n) (a .bytes .now) (omega arith))
 
--- src/main.rt:77:5
 read-full-requires : tie.Need-read-full-requires
 read-full-requires c κs = search needs
 
--- src/main.rt:73:1
 same-length : tie.Need-same-length
 same-length c = search needs
 
--- src/main.rt:73:1
 returns-2 : tie.Need-returns-2
 returns-2 c = search needs
 

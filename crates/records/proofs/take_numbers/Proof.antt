@@ -2,11 +2,8 @@ use borrow.Author.Needs.{needs}
 use lib.ListN.{length}
 use mathlib.Core.Path.{_≡_}
 use Prim.Native.Nat.{_-_, _≤_}
-use Rattle.replay.proofs.take_numbers.Statement.{statement}
-use Rattle.replay.proofs.take_numbers.Tie as tie
-use Rattle.replay.proofs.take_numbers.Reads as reads
-use Rattle.replay.proofs.take_numbers.Lts as lts
-use Rattle.replay.proofs.take_number.Reads as take-number-reads
+use Rattle.records.proofs.take_numbers.Statement.{statement}
+use Rattle.records.proofs.take_numbers.Tie as tie
 
 abbrev Inv-loop : tie.InvT-loop
 Inv-loop file n numbers₀ i₀ numbers i = (i ≤ n) × (length numbers ≡ length numbers₀)
@@ -14,43 +11,33 @@ Inv-loop file n numbers₀ i₀ numbers i = (i ≤ n) × (length numbers ≡ len
 abbrev μ-loop : tie.MeasureT-loop
 μ-loop file n numbers₀ i₀ numbers i = n - i
 
--- src/main.rt:90:9
 returns : tie.Need-returns Inv-loop μ-loop
 returns c = search needs
 
--- src/main.rt:93:5
 loop-holds : tie.Need-loop-holds Inv-loop μ-loop
 loop-holds c = search needs
 
--- src/main.rt:94:22
 take-number-requires : tie.Need-take-number-requires Inv-loop μ-loop
 take-number-requires c κs = search needs
 
--- src/main.rt:94:9
 mul-numbers : tie.Need-mul-numbers Inv-loop μ-loop
 mul-numbers c = search needs
 
--- src/main.rt:94:9
 slice-write-numbers : tie.Need-slice-write-numbers Inv-loop μ-loop
 slice-write-numbers c = search needs
 
--- src/main.rt:95:9
 add-i : tie.Need-add-i Inv-loop μ-loop
 add-i c = search needs
 
--- src/main.rt:93:5
 loop-less : tie.Need-loop-less Inv-loop μ-loop
 loop-less c = search needs
 
--- src/main.rt:93:5
 loop-again : tie.Need-loop-again Inv-loop μ-loop
 loop-again c = search needs
 
--- src/main.rt:88:1
 same-length : tie.Need-same-length Inv-loop μ-loop
 same-length c = search needs
 
--- src/main.rt:88:1
 returns-2 : tie.Need-returns-2 Inv-loop μ-loop
 returns-2 c = search needs
 
