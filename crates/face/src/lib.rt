@@ -143,8 +143,9 @@ fn place_of(font: &[u8], row: &[u8]) -> Place
     requires { ⌜ 16 ≤ length (now row) ⌝ }
     ensures { λ r. ⌜ r ≡ rowPlace (now (font .entry)) (rowOf (now (row .entry))) ⌝ }
 {
-    let offset = read::u32_at(row, 8) as usize;
-    let length = read::u32_at(row, 12) as usize;
+    let extent = read::reader::extent_at(row, 0);
+    let offset = extent.offset as usize;
+    let length = extent.length as usize;
     if read::holds(font, offset, length) {
         return Place {
             offset,

@@ -1,5 +1,7 @@
 // Reading: big-endian numbers at a place in a slice, parts, and the word sum (the crate's read.rs, and checksum of its lib.rs).
-// A place number stands beside the slice; whoever calls has tested that what is read is there (`holds`).
+// A place number stands beside the slice; whoever calls has tested that what is read is there (`holds`). `reader` holds the two together.
+pub mod reader;
+
 ghost use mathlib.Core.Path.{_≡_};
 ghost use Prim.Native.Nat.{_+_, _*_, _/_, _%_, _≤_, _<_};
 ghost use lib.Dec.{leb};
