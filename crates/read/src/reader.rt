@@ -1,11 +1,11 @@
 // The Reader: a slice, held beside the place of the next read (the crate's read.rs), over the place-number functions.
-// It goes by value: a read leaves it where it stands, and `skip` hands it back further on.
+// Whoever reads has tested that what is read is there.
 ghost use mathlib.Core.Path.{_≡_};
 ghost use Prim.Native.Nat.{_+_, _≤_, _<_, _^_};
 ghost use lib.ListN.{length, drop};
 ghost use Rattle.model.specs.Bytes.{word32};
 ghost use Rattle.model.specs.Font.{rowOf};
-ghost use Rattle.read.specs.Extents.{extentOf};
+ghost use Rattle.read.specs.Reading.{further, extentOf};
 
 pub struct Reader<'a> {
     data: &'a [u8],
@@ -25,23 +25,22 @@ impl<'a> Reader<'a> {
         Reader { data, offset }
     }
 
-    // The 32-bit number that stands here.
-    pub fn read_u32(self) -> u32
-        requires { ⌜ self .offset + 4 ≤ length (now (self .data)) ⌝ }
-        ensures { λ r. ⌜ r ≡ word32 (now (self .entry .data)) (self .entry .offset) ⌝ }
+    // The next n bytes are passed over.
+    pub fn skip_bytes<'s>(&'s mut self, n: usize)
+        requires { ⌜ now self .offset + n < 2 ^ 64 ⌝ }
+        ensures { λ _. ⌜ now (self .exit) ≡ further (now (self .entry)) n ⌝ }
     {
-        crate::u32_at(self.data, self.offset)
+        self.offset = self.offset + n;
     }
 
-    // The same slice, n bytes on.
-    pub fn skip(self, n: usize) -> Reader<'a>
-        requires { ⌜ self .offset + n < 2 ^ 64 ⌝ }
-        ensures { λ r. ⌜ (r .data ≡ self .entry .data) × (r .offset ≡ self .entry .offset + n) ⌝ }
+    // The next 32-bit number.
+    pub fn read_u32<'s>(&'s mut self) -> u32
+        requires { ⌜ now self .offset + 4 ≤ length (now (now self .data)) ⌝ }
+        ensures { λ r. ⌜ (r ≡ word32 (now (now (self .entry) .data)) (now (self .entry) .offset)) × (now (self .exit) ≡ further (now (self .entry)) 4) ⌝ }
     {
-        Reader {
-            data: self.data,
-            offset: self.offset + n,
-        }
+        let word = crate::u32_at(self.data, self.offset);
+        self.offset = self.offset + 4;
+        word
     }
 }
 
@@ -50,8 +49,9 @@ pub fn extent_at(b: &[u8], at: usize) -> Extent
     requires { ⌜ at + 16 ≤ length (now b) ⌝ }
     ensures { λ r. ⌜ r ≡ extentOf (rowOf (drop at (now (b .entry)))) ⌝ }
 {
-    let r = Reader::new_at(b, at).skip(8);
+    let mut r = Reader::new_at(b, at);
+    r.skip_bytes(8);
     let offset = r.read_u32();
-    let length = r.skip(4).read_u32();
+    let length = r.read_u32();
     Extent { offset, length }
 }

@@ -1,6 +1,6 @@
 -- By whether the range is in the file.
 use mathlib.Core.Path.{sym, ap, _∙_}
-use Rattle.read.specs.Extents.{extentOf}
+use Rattle.read.specs.Reading.{extentOf}
 use Rattle.read.specs.declared.reader.Extent.{Extent}
 use Rattle.face.specs.Opening.{rowPlace}
 use borrow.Author.Needs.{needs}

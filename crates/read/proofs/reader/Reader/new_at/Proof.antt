@@ -35,7 +35,7 @@ use denote.Exit.{yes}
 use Rattle.read.specs.declared.reader.Reader.{Reader}
 use Rattle.read.proofs.reader.Reader as T
 use Rattle.read.proofs.reader.Reader.Laws as T′
-use Rattle.read.proofs.reader.Reader.new_at.Key.{name as #read·new-at}
+use Rattle.read.proofs.reader.Reader.new_at.Key.{name as #new-at}
 use Rattle.read.proofs.reader.Reader.new_at as new-at
 use Rattle.read.proofs.reader.Reader.new_at.Statement as stated
 use Rattle.read.proofs.reader.Reader.new_at.Code as code
@@ -92,5 +92,5 @@ pub new-at-spec : {M : Type 1} → stated.statement M
 unfolding code.routine tablesOf
 new-at-spec 𝓤 H 𝓜 𝓖 𝓡 =
     entered 𝓤 H (tripleOf 𝓤 H (𝓖 .A) new-at.signature (new-at.spec 𝓤 H (𝓖 .A) (𝓜 .mem) (𝓡 .run)))
-    (tables 𝓤 H 𝓜 𝓡 code.env .C) (tables 𝓤 H 𝓜 𝓡 code.env .Λ) #read·new-at code.function (code.unfolded 𝓤 H 𝓜 𝓡)
+    (tables 𝓤 H 𝓜 𝓡 code.env .C) (tables 𝓤 H 𝓜 𝓡 code.env .Λ) #new-at code.function (code.unfolded 𝓤 H 𝓜 𝓡)
     (new-at-meets 𝓤 H (𝓖 .A) (givenOf 𝓤 H 𝓜 𝓖) (𝓜 .mem) (𝓡 .run) (tablesOf 𝓤 H 𝓜 (tables 𝓤 H 𝓜 𝓡 code.env)))
