@@ -1,6 +1,6 @@
 // Runs document 01's bench samples through the public call and prints what it answers, a line each. samples.bin holds them as the script make
-// wrote them: a number of samples; for each the lengths of its ids and font, how often the font's last twelve bytes (a name record) are to
-// be repeated behind it, then a label of 32 bytes, the ids and the font.
+// wrote them: a number of samples; for each the lengths of its ids and font, how often the font's last twelve bytes are to be repeated
+// behind it, then a label of 32 bytes, the ids and the font.
 use answer::Answer;
 
 struct Sample {
@@ -48,9 +48,13 @@ fn repeat(font: &mut [u8], from: usize, to: usize) {
     }
 }
 
-fn print_id(id: u16) {
+fn print_next(n: usize) {
     print(b" ");
-    print_number(id as usize);
+    print_number(n);
+}
+
+fn print_id(id: u16) {
+    print_next(id as usize);
 }
 
 fn print_roster(scratch: &[u16], kept: usize) {
@@ -69,6 +73,34 @@ fn print_storage(out: &[u8]) {
     }
 }
 
+fn print_half(out: &[u8], at: usize) {
+    print_next((records::word(out, at) / 65536) as usize);
+}
+
+// A number of each directory record: the one that stands at `at` in the first.
+fn print_rows(out: &[u8], tables: u32, at: u32) {
+    let mut k = 0;
+    while k < tables {
+        print_next(records::size(out, 16 * (k as usize) + (at as usize)));
+        k += 1;
+    }
+}
+
+// The three search words and each table's length, by tag; of the font made for them, with 9 tables, the checksums too.
+fn print_directory(out: &[u8]) {
+    let tables = records::word(out, 4) / 65536;
+    print(b"; search");
+    print_half(out, 6);
+    print_half(out, 8);
+    print_half(out, 10);
+    print(b"; lengths");
+    print_rows(out, tables, 24);
+    if tables == 9 {
+        print(b"; sums");
+        print_rows(out, tables, 16);
+    }
+}
+
 fn print_answer(a: Answer, scratch: &[u16], out: &[u8]) {
     match a {
         Answer::Font { kept, length } => {
@@ -79,6 +111,7 @@ fn print_answer(a: Answer, scratch: &[u16], out: &[u8]) {
             print(b":");
             print_roster(scratch, kept);
             print_storage(out);
+            print_directory(out);
         }
         Answer::No(k) => {
             print(b"refused ");
@@ -91,7 +124,7 @@ fn print_answer(a: Answer, scratch: &[u16], out: &[u8]) {
 
 fn run(font: &[u8], ids: &[u16]) {
     let mut scratch = [0u16; 8192];
-    let mut out = [0u8; 65856];
+    let mut out = [0u8; 132096];
     let a = subset::subset(font, 0, ids, &mut scratch, &mut out);
     print_answer(a, &scratch, &out);
 }
@@ -108,7 +141,7 @@ fn run_parts(font: &[u8], f: usize, ids: &[u16], i: usize) {
 
 fn run_sample(file: i32, s: Sample) {
     let mut ids = [0u16; 8];
-    let mut font = [0u8; 65856];
+    let mut font = [0u8; 132096];
     print_label(file);
     if !records::take_numbers(file, s.ids, &mut ids) {
         return;
@@ -116,7 +149,7 @@ fn run_sample(file: i32, s: Sample) {
     if !records::take_bytes(file, s.font, &mut font) {
         return;
     }
-    if s.repeat > 5460 {
+    if s.repeat > 10921 {
         return;
     }
     if s.font > 65536 {
