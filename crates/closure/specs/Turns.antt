@@ -5,9 +5,8 @@ use mathlib.Core.List.{List, [], _∷_, _++_, reverse}
 use Prim.Native.Nat.{ℕ, _+_, _*_, _-_, _≤_, _<_}
 use lib.ListN.{length, take, drop}
 use Rattle.model.specs.Res.{Res, refuse, ok, pick, _>>=_}
-use Rattle.model.specs.Walk.{Walk, going, kept, refused, most}
-use Rattle.model.proofs.Members.{In}
-use Rattle.model.proofs.Thin.{stepT, runT, Done}
+use Rattle.model.specs.Bytes.{In}
+use Rattle.model.specs.Walk.{Walk, going, kept, refused, most, stepT, runT, Done}
 use Rattle.remapper.specs.Scratch.{offered}
 use Rattle.remapper.specs.State.{Walking, asked, Counts}
 use Rattle.remapper.specs.declared.Count.{Count}

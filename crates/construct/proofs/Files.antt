@@ -64,9 +64,6 @@ sum-snoc es t b =
     ap wordSum (bodies-snoc es t b) ∙ sum-append (bodies es) (pad4 b) (bodies-whole es)
     ∙ ap (λ (n : ℕ). wordSum (bodies es) + n) (sum-pad4 b)
 
-pub length-row : (at : ℕ) (e : Entry) → length (row at e) ≡ 16
-length-row at e = refl
-
 pub rows-append : (at : ℕ) (es : List Entry) (e : Entry)
     → rowsFrom at (es ++ (e ∷ [])) ≡ rowsFrom at es ++ row (at + length (bodies es)) e
 rows-append at [] e = append-nil (row at e) ∙ ap (λ (n : ℕ). row n e) (sym (add-zero at))
@@ -85,9 +82,6 @@ length-rows at (e ∷ es) =
     let i = length-rows (at + length (pad4 (e .1))) es in
     let s = length-append (row at e) (rowsFrom (at + length (pad4 (e .1))) es) in
     omega arith
-
-pub length-header : (n : ℕ) → length (header n) ≡ 12
-length-header n = refl
 
 pub length-directory : (es : List Entry) → length (directoryOf es) ≡ directoryLength (length es)
 unfolding directoryOf directoryLength

@@ -8,7 +8,7 @@ use Rattle.model.specs.Bytes.{Bytes}
 use Rattle.model.specs.File.{bodies}
 use Rattle.places.specs.Places.{placeAt, contentAt}
 use Rattle.construct.specs.declared.Layout.{Layout}
-use Rattle.construct.specs.Construct.{raised, directoryLength, entriesTo, laid, Sized, Placed, Ready, Room}
+use Rattle.construct.specs.Construct.{raised, directoryLength, entriesTo, laid, Sized, Placed, Ready}
 use Rattle.construct.proofs.Files.{raised-room}
 use Rattle.construct.proofs.Stand.{length-part}
 use Rattle.construct.proofs.Lists.{start-room, start-grows, start-first, start-bodies, count-there, count-grows, length-entries}
@@ -34,15 +34,6 @@ module _ (new : Layout) (p : Placed new) where
       let f = start-first (new .tables) d in
       let e = p .ends in
       omega arith
-
--- a table and its zeros have their place in the output
-pub room-there : (out : Bytes) (new : Layout) (k size : ℕ) → Room out new k size → (placeAt (new .tables) k) .present ≡ true
-    → (placeAt (new .tables) k) .offset + raised size ≤ length out
-room-there out new k size r t =
-    let m = pad-room new (r .placed) k (r .known) t in
-    let e = ap raised (r .fits t) in
-    let f = r .room in
-    omega arith
 
 module _ (out : Bytes) (new : Layout) (r : Ready out new) where
   pub ready-sized : Sized (new .tables) (contentAt out (new .tables))

@@ -138,10 +138,3 @@ writeTo new body out (suc k) = writeAt new k (body k) (writeTo new body out k)
 -- the first k tables are written, padded, one behind the other, over what the output was: the caller's way to `Ready`
 abbrev pub Written : Layout → (ℕ → Bytes) → Bytes → Bytes → ℕ → Type 0
 Written new body out₀ out k = out ≡ put out₀ (directoryLength (new .count)) (bodies (entriesTo (new .tables) body k))
-
--- a table may be written: the layout has a place for it, of its length, and the output has room for the file
-pub record Room (out : Bytes) (new : Layout) (k size : ℕ) : Type 0 where
-  pub placed : Placed new
-  pub known : k < 11
-  pub fits : (placeAt (new .tables) k) .present ≡ true → size ≡ (placeAt (new .tables) k) .length
-  pub room : new .end ≤ length out

@@ -9,7 +9,7 @@ ghost use lib.ListN.{length, replicate, getD, take};
 ghost use Rattle.model.specs.Bytes.{be32, put, over, part};
 ghost use Rattle.model.specs.File.{checksum, header, row, rowsFrom, bodies, file};
 ghost use Rattle.places.specs.Places.{tagWords, placeAt};
-ghost use Rattle.construct.specs.Construct.{searched, raised, countTo, laidOut, directoryLength, laid, adjusting, writeAt, Ready, Leaves, Room};
+ghost use Rattle.construct.specs.Construct.{searched, raised, countTo, laidOut, directoryLength, laid, adjusting, Ready, Leaves};
 
 // Where the new tables stand, how many there are, and the file's length.
 pub struct Layout {
@@ -88,20 +88,6 @@ pub fn pad(out: &mut [u8], at: usize, size: usize)
     ensures { λ _. ⌜ now (out .exit) ≡ put (now (out .entry)) (at + size) (replicate ((4 - size % 4) % 4) 0) ⌝ }
 {
     write::zeros(out, at + size, (4 - size % 4) % 4);
-}
-
-// "cvt, fpgm, prep: copied": a table, if it is there, at its place, and its zeros. An absent one's `src` is not looked at.
-pub fn copy_table(src: &[u8], out: &mut [u8], new: Layout, k: usize)
-    requires { ⌜ Room (now out) new k (length (now src)) ⌝ }
-    ensures { λ _. ⌜ now (out .exit) ≡ writeAt new k (now (src .entry)) (now (out .entry)) ⌝ }
-{
-    let tables = new.tables;
-    let p = tables.places[k];
-    let at = p.offset;
-    if p.present {
-        write::copy(src, out, at);
-        pad(out, at, src.len());
-    }
 }
 
 // "search range, selector": by halving; the crate takes a logarithm in f32.

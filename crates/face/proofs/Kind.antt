@@ -10,14 +10,8 @@ use Rattle.model.specs.Bytes.{Bytes, word32, holds}
 use Rattle.model.specs.Font.{faceStart, faceAt, outlines, TRUETYPE, APPLE, OTTO, TTCF}
 use Rattle.model.proofs.Res.{need-ok, need-no, pick-true, pick-false}
 
-pub no-outlines : (k : ℕ) → (k ≡ TRUETYPE → ⊥) → (k ≡ APPLE → ⊥) → outlines k ≡ false
-no-outlines k a b = ap (λ (t : Bool). either t (eqb k APPLE)) (ne-eqb k TRUETYPE a) ∙ ne-eqb k APPLE b
-
 pub outlines-first : (k : ℕ) → k ≡ TRUETYPE → outlines k ≡ true
 outlines-first k a = ap (λ (t : Bool). either t (eqb k APPLE)) (eq-eqb k TRUETYPE a)
-
-pub outlines-second : (k : ℕ) → k ≡ APPLE → outlines k ≡ true
-outlines-second k a = ap outlines a
 
 module _ (b : Bytes) (at : ℕ) where
   pub at-cut : holds b at 4 ≡ false → refuse 3 ≡ faceAt b at

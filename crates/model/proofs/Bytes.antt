@@ -9,9 +9,6 @@ use lib.ListN.{length, take, drop, getD, length-append, length-take, length-drop
 use lib.Seq.{take-at, take-append-le, drop-append-le, drop-append-add, drop-drop, length-take-le, getD-take, getD-drop, getD-append-add}
 use Rattle.model.specs.Bytes.{Bytes, word16, word32, be16, be32, put, over}
 
-pub length-be16 : (v : ℕ) → length (be16 v) ≡ 2
-length-be16 v = refl
-
 pub length-put : (d : List ℕ) (i : ℕ) (bs : List ℕ) → i + length bs ≤ length d → length (put d i bs) ≡ length d
 unfolding put
 length-put d i bs h = simp (length-append, length-take, length-drop) (omega arith)
@@ -46,10 +43,6 @@ put-zero d bs = rw zero-add
 pub over-part : (d bs : List ℕ) (i : ℕ) → take i d ++ over bs (drop i d) ≡ put d i bs
 unfolding put over
 over-part d bs i = rw (← append-assoc, drop-drop)
-
--- the part itself is a run behind another run
-pub over-over : (p bs d : List ℕ) (i : ℕ) → length p ≡ i → take i (over p d) ++ over bs (drop i (over p d)) ≡ over (p ++ bs) d
-over-over p bs d i e = over-part (over p d) bs i ∙ put-over p d bs i e
 
 -- two runs, one behind the other
 pub put-put : (d a b : List ℕ) (i : ℕ) → i ≤ length d → put (put d i a) (i + length a) b ≡ put d i (a ++ b)
@@ -99,10 +92,6 @@ word16-put d i v small h =
     let a : getD (put d i (be16 v)) i 0 ≡ v / 256 % 256 = rw add-zero at (getD-put d i (be16 v) 0 h (lit< tt)) in
     let b : getD (put d i (be16 v)) (i + 1) 0 ≡ v % 256 = getD-put d i (be16 v) 1 h (lit< tt) in
     omega arith
-
-pub word16-put-before : (d : List ℕ) (i : ℕ) (bs : List ℕ) (j : ℕ) → i ≤ length d → j + 2 ≤ i → word16 (put d i bs) j ≡ word16 d j
-word16-put-before d i bs j h hj =
-    simp (getD-put-before d i bs j h (omega arith), getD-put-before d i bs (j + 1) h (omega arith))
 
 pub word16-put-after : (d : List ℕ) (i : ℕ) (bs : List ℕ) (j : ℕ) → i ≤ length d → i + length bs ≤ j → word16 (put d i bs) j ≡ word16 d j
 word16-put-after d i bs j h hj =

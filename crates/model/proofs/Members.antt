@@ -10,11 +10,9 @@ use lib.Dec.{eqb}
 use borrow.Author.Tests.{eqb-true, eq-eqb}
 use Rattle.model.specs.Res.{pick, either}
 use Rattle.model.specs.Bytes.{member}
+pub use Rattle.model.specs.Bytes.{In}
 use Rattle.model.specs.Walk.{numbered, full, push}
 use Rattle.model.proofs.Res.{Under}
-
-abbrev pub In : ℕ → List ℕ → Type 0
-In x l = member x l ≡ true
 
 -- by cases on a test, with what the test said
 pub by {ℓ} : {C : Type ℓ} (b : Bool) → (b ≡ true → C) → (b ≡ false → C) → C

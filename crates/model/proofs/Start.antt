@@ -10,14 +10,11 @@ use lib.Dec.{leb, eqb}
 use borrow.Author.Tests.{eqb-true, eqb-false, leb-false}
 use Rattle.model.specs.Res.{Res}
 use Rattle.model.specs.Bytes.{member}
+pub use Rattle.model.specs.Bytes.{Once}
+pub use Rattle.model.specs.Walk.{firsts, walkT}
 use Rattle.model.specs.Walk.{going, refused, numbered, full, run, seed, begin, ended, most}
 use Rattle.model.proofs.Members.{In, by, clash, in-here, in-there, in-cons, in-one, in-eq, in-left, in-append, in-numbered-self, numbered-cases, numbered-in, numbered-new}
 use Rattle.model.proofs.Thin.{runT, Done, clean, without, Inside, Inv, Same, Alike, both-end, sim, bar-none, weight-none, widths}
-
--- no id twice
-abbrev pub Once : List ℕ → Type 0
-Once [] = Unit {0}
-Once (x ∷ l) = (member x l ≡ false) × Once l
 
 pub out-of : (x : ℕ) (l : List ℕ) → (In x l → ⊥) → member x l ≡ false
 out-of x l h = by (member x l) (λ e. absurd (h e)) (λ e. e)
@@ -69,11 +66,6 @@ without-out c (x ∷ l) h =
 pub clean-once : (st : List ℕ) → Once st → clean [] st ≡ st
 clean-once [] h = refl
 clean-once (g ∷ st) h = ap {B = List ℕ} (λ t. g ∷ t) (ap (without g) (clean-once st (h .1)) ∙ without-out g st (h .0))
-
--- the requests' first appearances, behind the ids there are
-abbrev pub firsts : List ℕ → List ℕ → List ℕ
-firsts r [] = r
-firsts r (q ∷ qs) = firsts (numbered r q) qs
 
 pub room : (r : List ℕ) (g : ℕ) → full r g ≡ false → length r ≤ most → length (numbered r g) ≤ most
 unfolding full
@@ -161,10 +153,6 @@ begin-cases n qs =
     by (eqb n 0)
     (λ e. inl (3, rw e))
     (λ e. rw e (seed-cases n (0 ∷ []) qs (refl, tt) (λ x m. omega (arith, in-one x 0 m, eqb-false n 0 e))))
-
--- the walk by moving to the top
-abbrev pub walkT : ℕ → ℕ → (ℕ → Res (List ℕ)) → List ℕ → Res (List ℕ)
-walkT turns n o qs = ended (runT o turns (begin n qs))
 
 -- THEOREM. Turns for every request and every component are enough, and moving to the top numbers alike
 pub thin : (turns n : ℕ) (o : ℕ → Res (List ℕ)) (qs : List ℕ) → Inside o n → 2 + length qs + widths n o ≤ turns → Alike o turns (begin n qs)

@@ -13,36 +13,9 @@ use lib.Dec.{eqb}
 use borrow.Author.Tests.{eqb-true, eqb-false, ne-eqb}
 use Rattle.model.specs.Res.{Res, refuse, ok, pick}
 use Rattle.model.specs.Bytes.{member}
+pub use Rattle.model.specs.Walk.{without, toTop, openedT, stepT, runT, Done}
 use Rattle.model.specs.Walk.{Walk, going, kept, refused, numbered, full, push, step, run}
 use Rattle.model.proofs.Members.{In, by, clash, in-here, in-there, in-cons, in-one, in-eq, in-numbered, in-numbered-self, numbered-in, full-in, push-none, in-push, length-push, eqb-self}
-
-abbrev pub without : ℕ → List ℕ → List ℕ
-without c [] = []
-without c (x ∷ l) = pick (eqb x c) (without c l) (x ∷ without c l)
-
--- each id that has no number goes to the top, and away from where it stood
-abbrev pub toTop : List ℕ → List ℕ → List ℕ → List ℕ
-toTop r [] st = st
-toTop r (c ∷ cs) st = toTop r cs (pick (member c r) st (c ∷ without c st))
-
-abbrev pub openedT : Res (List ℕ) → List ℕ → List ℕ → Walk
-openedT (refuse k) r st = refused k
-openedT (ok cs) r st = going r (toTop r cs st)
-
-abbrev pub stepT : (ℕ → Res (List ℕ)) → Walk → Walk
-stepT o (going r []) = kept r
-stepT o (going r (g ∷ st)) = pick (full r g) (refused 7) (openedT (o g) (numbered r g) st)
-stepT o (kept r) = kept r
-stepT o (refused k) = refused k
-
-abbrev pub runT : (ℕ → Res (List ℕ)) → ℕ → Walk → Walk
-runT o zero w = w
-runT o (suc f) w = runT o f (stepT o w)
-
-abbrev pub Done : Walk → Type 0
-Done (going r st) = ⊥
-Done (kept r) = Unit {0}
-Done (refused k) = Unit {0}
 
 -- what is still to be done of a stack, when the ids rd have been read
 abbrev pub clean : List ℕ → List ℕ → List ℕ

@@ -1,4 +1,5 @@
 -- Bytes are numbers in a list. Big-endian words, parts, padding, membership.
+use mathlib.Core.Path.{_≡_}
 use mathlib.Core.Bool.{Bool, true, false}
 use mathlib.Core.List.{List, [], _∷_, _++_}
 use Prim.Native.Nat.{ℕ, suc, _+_, _*_, _-_, _/_, _%_}
@@ -68,6 +69,14 @@ sameBytes (x ∷ xs) (y ∷ ys) = both (eqb x y) (sameBytes xs ys)
 abbrev pub member : ℕ → List ℕ → Bool
 member x [] = false
 member x (y ∷ ys) = either (eqb x y) (member x ys)
+
+-- x stands in the list; no number stands there twice
+abbrev pub In : ℕ → List ℕ → Type 0
+In x l = member x l ≡ true
+
+abbrev pub Once : List ℕ → Type 0
+Once [] = Unit {0}
+Once (x ∷ l) = (member x l ≡ false) × Once l
 
 -- where x first stands in a list (its length if it does not)
 abbrev pub place : List ℕ → ℕ → ℕ

@@ -65,3 +65,42 @@ ended (refused k) = refuse k
 -- the whole walk of a font with n glyphs
 unfoldable pub walk : ℕ → ℕ → (ℕ → Res (List ℕ)) → List ℕ → Res (List ℕ)
 walk turns n parts ids = ended (run parts turns (begin n ids))
+
+-- the requests' first appearances, behind the ids there are
+abbrev pub firsts : List ℕ → List ℕ → List ℕ
+firsts r [] = r
+firsts r (q ∷ qs) = firsts (numbered r q) qs
+
+-- "A component pushed again may move to the top: its older entry would number nothing": the walk that does so, which the code takes
+-- (theorem `moving-to-top`: it keeps the same roster)
+abbrev pub without : ℕ → List ℕ → List ℕ
+without c [] = []
+without c (x ∷ l) = pick (eqb x c) (without c l) (x ∷ without c l)
+
+-- each component that has no number goes to the top, and away from where it stood
+abbrev pub toTop : List ℕ → List ℕ → List ℕ → List ℕ
+toTop r [] stack = stack
+toTop r (c ∷ cs) stack = toTop r cs (pick (member c r) stack (c ∷ without c stack))
+
+abbrev pub openedT : Res (List ℕ) → List ℕ → List ℕ → Walk
+openedT (refuse k) r stack = refused k
+openedT (ok cs) r stack = going r (toTop r cs stack)
+
+abbrev pub stepT : (ℕ → Res (List ℕ)) → Walk → Walk
+stepT parts (going r []) = kept r
+stepT parts (going r (g ∷ stack)) = pick (full r g) (refused 7) (openedT (parts g) (numbered r g) stack)
+stepT parts (kept r) = kept r
+stepT parts (refused k) = refused k
+
+abbrev pub runT : (ℕ → Res (List ℕ)) → ℕ → Walk → Walk
+runT parts zero w = w
+runT parts (suc turns) w = runT parts turns (stepT parts w)
+
+abbrev pub walkT : ℕ → ℕ → (ℕ → Res (List ℕ)) → List ℕ → Res (List ℕ)
+walkT turns n parts ids = ended (runT parts turns (begin n ids))
+
+-- it has ended
+abbrev pub Done : Walk → Type 0
+Done (going r stack) = ⊥
+Done (kept r) = Unit {0}
+Done (refused k) = Unit {0}

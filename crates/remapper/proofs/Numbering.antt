@@ -66,10 +66,6 @@ rostered-keeps n s s′ r k h v =
 pub rostered-at : (n : ℕ) (s r : List ℕ) (i : ℕ) → Rostered n s r → i < length r → getD s i 0 ≡ getD r i 0
 rostered-at n s r i v h = sym (getD-take (length r) s i 0 h) ∙ ap (λ (t : List ℕ). getD t i 0) (v .ids)
 
--- an id of the roster has a number, and it is its place
-pub rostered-new : (n : ℕ) (s r : List ℕ) (g : ℕ) → Rostered n s r → g < n → In g r → num n s g ≡ suc (place r g)
-rostered-new n s r g v h m = v .numbers g h ∙ rw m
-
 module _ (n : ℕ) (s r : List ℕ) (q : ℕ) (size : 4 * n ≤ length s) (room : length r < n) (low : q < n) where
   s₁ : List ℕ
   s₁ = set s (0 + length r) q

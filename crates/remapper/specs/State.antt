@@ -6,10 +6,8 @@ use mathlib.Core.Path.{_≡_}
 use lib.ListN.{length, take, drop}
 use lib.Dec.{leb}
 use Rattle.model.specs.Res.{Res, refuse, ok, pick}
-use Rattle.model.specs.Bytes.{member, place}
+use Rattle.model.specs.Bytes.{member, place, In, Once}
 use Rattle.model.specs.Walk.{numbered, full}
-use Rattle.model.proofs.Members.{In}
-use Rattle.model.proofs.Start.{Once}
 use Rattle.remapper.specs.Scratch.{num, prev, next, Linked}
 use Rattle.remapper.specs.declared.Count.{Count}
 use Rattle.remapper.specs.declared.Count.the-variants.{Of, No}

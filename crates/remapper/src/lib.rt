@@ -2,10 +2,10 @@
 // Four rows: the roster | new number + 1 by old id, 0: none | previous | next. The links are a ring through glyph 0, which never waits, so that
 // unlinking and inserting have no branch and no top is carried; a glyph that doesn't wait is a ring of its own.
 ghost use mathlib.Core.Path.{_≡_};
-ghost use Prim.Native.Nat.{_+_, _*_, _-_, _≤_, _<_};
+ghost use Prim.Native.Nat.{_+_, _*_, _≤_, _<_};
 ghost use lib.ListN.{length, getD, set, replicate};
 ghost use Rattle.model.specs.Bytes.{put};
-ghost use Rattle.remapper.specs.Scratch.{num, next, Linked, unlinked, inserted, moved, offered, given, taken, upTo, started};
+ghost use Rattle.remapper.specs.Scratch.{next, Linked, unlinked, inserted, moved, offered, given, taken, upTo, started};
 ghost use Rattle.remapper.specs.State.{Numbering, Asked};
 
 // How many glyphs have a number, or the refusal.
@@ -38,14 +38,6 @@ pub fn old_id(s: &[u16], k: usize) -> usize
     ensures { λ r. ⌜ r ≡ getD (now (s .entry)) k 0 ⌝ }
 {
     s[k] as usize
-}
-
-// The new number of an id that has one.
-pub fn new_id(s: &[u16], n: usize, g: usize) -> u16
-    requires { ⌜ (n + g < length (now s)) × (0 < num n (now s) g) ⌝ }
-    ensures { λ r. ⌜ r ≡ num n (now (s .entry)) g - 1 ⌝ }
-{
-    s[n + g] - 1
 }
 
 // The component that waits on top, or 0.

@@ -1,4 +1,4 @@
--- Two small fonts, computed: a second cut that reads the old count in a long hhea finds hmtx too short; a missing name, stored empty, hides the later ones.
+-- Three small fonts, computed: a plain one meets every premise; a second cut that reads the old count in a long hhea finds hmtx too short; a missing name, stored empty, hides the later ones.
 use mathlib.Core.Path.{_≡_, refl, sym, ap, _∙_}
 use mathlib.Core.Bool.{true}
 use mathlib.Core.Option.{Option, none, some}
@@ -21,7 +21,7 @@ use Rattle.model.specs.File.{entries, file, directoryOf, adjustment}
 use Rattle.model.specs.Cut.{count, closure, rewrite, cutTables, outlineOf, partsOf, pieceOf}
 use Rattle.model.specs.Call.{Input, Answer, answer, outAfter, scratchAfter, ready, made}
 use Rattle.theorems.specs.Twice.{AreBytes, fileOf, rosterOf, ScratchEnough, Asked}
-use Rattle.theorems.specs.Premises.{HheaNeeded, NamesNeeded}
+use Rattle.theorems.specs.Premises.{HheaNeeded, NamesNeeded, PremisesMet}
 
 -- three empty glyphs of equal advance
 abbrev font : Bytes → Option Bytes → Bytes
@@ -46,6 +46,10 @@ font hhea post =
 -- the count, 3, and two bytes more
 abbrev longHhea : Bytes
 longHhea = font (replicate 35 0 ++ (3 ∷ 0 ∷ 0 ∷ [])) none
+
+-- the count, 3, and no more
+abbrev plain : Bytes
+plain = font (replicate 35 0 ++ (3 ∷ [])) none
 
 -- index 259 for glyph 0, 258 for glyphs 1 and 2, and one name: that of 258
 abbrev missing : Bytes
@@ -104,6 +108,27 @@ hheaNeeded =
       premise = λ t post r e. let z : none ≡ some post = ap postOf r ∙ e in let z : _≡_ {A = ℕ} 0 1 = cc in absurd (omega arith);
       asked = ask-again first (1 ∷ []) refl refl refl (enough small 2 refl (omega arith)) (enough first 3 refl (omega arith));
       differ = λ s. let z : _≡_ {A = ℕ} 3 0 = ap (λ (a : Answer). a .refusal) (s .answers) in omega arith;
+    }
+
+pub premisesMet : PremisesMet
+unfolding entries file directoryOf adjustment answer outAfter ready made read faceStart faceAt directory gather cutTables rewrite closure walk begin numbered full partsOf pieceOf outlineOf glyphBytes outline records metrics metric postIndex newPost cutPost scratchAfter put over
+premisesMet =
+    let first = ask plain (2 ∷ []) in
+    let small = ask (fileOf first) (1 ∷ []) in
+    record {
+      first = first;
+      small = small;
+      direct = first;
+      glyphs = 2 ∷ [];
+      cut =
+          record {
+            bytes = are-bytes plain refl;
+            success = refl;
+            hhea36 = λ t r. sym (ap hheaOf r);
+            named = λ t post r e. let z : none ≡ some post = ap postOf r ∙ e in let z : _≡_ {A = ℕ} 0 1 = cc in absurd (omega arith);
+          };
+      asked = ask-again first (1 ∷ []) refl refl refl (enough small 2 refl (omega arith)) (enough first 3 refl (omega arith));
+      again = refl;
     }
 
 -- by way of the small font the name of glyph 1 is missing too, and the file is 4 bytes shorter

@@ -5,15 +5,13 @@ use mathlib.Core.Logic.{_⊎_}
 use mathlib.Core.Path.{_≡_}
 use lib.ListN.{length, getD}
 use Rattle.model.specs.Res.{refuse, ok, each, mapRes}
-use Rattle.model.specs.Bytes.{Bytes, place}
+use Rattle.model.specs.Bytes.{Bytes, place, In, Once}
 use Rattle.model.specs.Font.{Tables}
 use Rattle.model.specs.Outline.{records}
 use Rattle.model.specs.Post.{names}
 use Rattle.model.specs.File.{selector}
-use Rattle.model.specs.Walk.{going, begin, run, walk, most}
+use Rattle.model.specs.Walk.{going, begin, run, walk, most, firsts, walkT}
 use Rattle.model.specs.Cut.{count, partsOf, pieceOf, turns, closure}
-use Rattle.model.proofs.Members.{In}
-use Rattle.model.proofs.Start.{Once, firsts, walkT}
 
 -- "Repeat until empty": when its turns are over the walk has ended, and more turns give the same
 pub record Enough (t : Tables) (ids : List ℕ) : Type 0 where
