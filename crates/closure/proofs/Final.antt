@@ -22,8 +22,8 @@ use Rattle.remapper.specs.Scratch.{started}
 use Rattle.remapper.specs.State.{Walking, Rostered, Counts, Numbering}
 use Rattle.remapper.specs.declared.Count.the-variants as numbered
 use Rattle.remapper.proofs.Fills.{walking-started, past-started}
-use Rattle.closure.specs.Closes.{partsIn, walkIn, Offsets, Closes}
-use Rattle.closure.specs.Turns.{Ends, Ran, asks, Numbered}
+use Rattle.closure.specs.Closes.{partsIn, walkIn, Offsets, closedOf, totals, Closes}
+use Rattle.closure.specs.Turns.{Summed, Ends, Ran, asks, Numbered}
 use Rattle.closure.specs.declared.Closed.{Closed}
 use Rattle.closure.specs.declared.Closed.the-variants.{Kept, No}
 use Rattle.closure.proofs.Requests.{begun, seed-asks}
@@ -40,22 +40,25 @@ numbered-all n qs s₁ s₂ count v = go (asks n (0 ∷ []) qs) (v .counts)
     go (ok r) c = (r, c .0, c .1)
     go (refuse j) c = absurd c
 
--- a walk that ends, and alike by moving to the top
-module _ (parts : ℕ → Res (List ℕ)) (turns n : ℕ) (qs : List ℕ) (alike : Alike parts turns (begin n qs)) where
-  closes : (s s′ : List ℕ) (a : Closed) (v : Walk) → run parts turns (begin n qs) ≡ v → Ends n s′ a v → drop (4 * n) s′ ≡ drop (4 * n) s
-      → Closes (walk turns n parts qs) n s s′ a
+-- a walk that ends, and alike by moving to the top; the sums are over its roster
+module _ (parts : ℕ → Res (List ℕ)) (lengths : ℕ → ℕ) (turns n : ℕ) (qs : List ℕ) (alike : Alike parts turns (begin n qs)) where
+  closes : (s s′ : List ℕ) (a : Closed) (v : Walk) → run parts turns (begin n qs) ≡ v → Ends lengths n s′ a v → drop (4 * n) s′ ≡ drop (4 * n) s
+      → Closes lengths (walk turns n parts qs) n s s′ a
   unfolding walk
-  closes s s′ a v e f p = subst (λ v. Closes (ended v) n s s′ a) (sym e) (go a v f)
+  closes s s′ a v e f p = subst (λ v. Closes lengths (ended v) n s s′ a) (sym e) (go a v f)
     where
-      go : (a : Closed) (v : Walk) → Ends n s′ a v → Closes (ended v) n s s′ a
-      go (Kept k) (going r st) f = absurd f
-      go (Kept k) (kept r) f = record { answer = ap ok (f .1); scratch = λ r′ q. subst (Rostered n s′) (ok-inj q) (f .0 .rostered); past = p }
-      go (Kept k) (refused j) f = absurd f
+      total : (k even raw : ℕ) (r : List ℕ) → k ≡ length r → Summed lengths r even raw → closedOf (Kept k even raw) ≡ ok (totals lengths r)
+      total k even raw r e z = rw (e, z .is-even, z .is-raw)
+
+      go : (a : Closed) (v : Walk) → Ends lengths n s′ a v → Closes lengths (ended v) n s s′ a
+      go (Kept k even raw) (going r st) f = absurd f
+      go (Kept k even raw) (kept r) f = record { answer = total k even raw r (f .1) (f .2); scratch = λ r′ q. subst (Rostered n s′) (ok-inj q) (f .0 .rostered); past = p }
+      go (Kept k even raw) (refused j) f = absurd f
       go (No k) (going r st) f = absurd f
       go (No k) (kept r) f = absurd f
       go (No k) (refused j) f = record { answer = ap refuse f; scratch = λ r q. ok-refuse (sym q); past = p }
 
-  pub closes-none : n ≡ 0 → (s : List ℕ) → Closes (walk turns n parts qs) n s s (No 3)
+  pub closes-none : n ≡ 0 → (s : List ℕ) → Closes lengths (walk turns n parts qs) n s s (No 3)
   closes-none e s = closes s s (No 3) (refused 3) (ap (run parts turns) none ∙ run-done parts turns (refused 3) tt) refl refl
     where
       none : begin n qs ≡ refused 3
@@ -72,17 +75,17 @@ module _ (parts : ℕ → Res (List ℕ)) (turns n : ℕ) (qs : List ℕ) (alike
         first : begin n qs ≡ begun (asks n (0 ∷ []) qs)
         first = unfold begin in rw (ne-eqb n 0 some) (seed-asks n (0 ∷ []) qs)
 
-    pub closes-no : (k : ℕ) → Numbered n qs s₁ s₂ (numbered.No k) → Closes (walk turns n parts qs) n s s₂ (No k)
+    pub closes-no : (k : ℕ) → Numbered n qs s₁ s₂ (numbered.No k) → Closes lengths (walk turns n parts qs) n s s₂ (No k)
     closes-no k v = go (asks n (0 ∷ []) qs) refl (v .counts)
       where
-        go : (m : Res (List ℕ)) → asks n (0 ∷ []) qs ≡ m → Counts n s₂ (numbered.No k) m → Closes (walk turns n parts qs) n s s₂ (No k)
+        go : (m : Res (List ℕ)) → asks n (0 ∷ []) qs ≡ m → Counts n s₂ (numbered.No k) m → Closes lengths (walk turns n parts qs) n s s₂ (No k)
         go (ok r) e c = absurd c
         go (refuse j) e c = closes s s₂ (No k) (refused j) (whole (refuse j) e ∙ runT-done parts turns (refused j) tt) c (v .past ∙ past₁)
 
-    pub closes-run : (count : ℕ) (s₃ : List ℕ) (a : Closed) → Numbered n qs s₁ s₂ (numbered.Of count) → Ran parts n s₂ s₃ count a → Closes (walk turns n parts qs) n s s₃ a
+    pub closes-run : (count : ℕ) (s₃ : List ℕ) (a : Closed) → Numbered n qs s₁ s₂ (numbered.Of count) → Ran parts lengths n s₂ s₃ count a → Closes lengths (walk turns n parts qs) n s s₃ a
     closes-run count s₃ a v t = go (asks n (0 ∷ []) qs) refl (v .counts)
       where
-        go : (m : Res (List ℕ)) → asks n (0 ∷ []) qs ≡ m → Counts n s₂ (numbered.Of count) m → Closes (walk turns n parts qs) n s s₃ a
+        go : (m : Res (List ℕ)) → asks n (0 ∷ []) qs ≡ m → Counts n s₂ (numbered.Of count) m → Closes lengths (walk turns n parts qs) n s s₃ a
         go (refuse j) e c = absurd c
         go (ok r) e c =
             let same = whole (ok r) e in

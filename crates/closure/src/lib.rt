@@ -1,6 +1,7 @@
 // Step 5: which glyphs are kept, and which new number each gets (the closure of the crate's glyf.rs), in the lent scratch.
 // The stack of the paper is not kept as such: the requests are read off the roster, the last one first, and the components wait in a ring,
 // where one that is pushed again moves to the top. The walk by moving to the top is the paper's walk (theorem `thin`).
+// Each kept outline is read once, here: so the walk adds up their lengths too, from which the sizes of glyf and loca follow.
 use outline::Component;
 use outline::Shape;
 use outline::Span;
@@ -9,32 +10,45 @@ ghost use mathlib.Core.Path.{_≡_};
 ghost use mathlib.Core.List.{[], _∷_};
 ghost use Prim.Native.Nat.{_+_, _*_, _≤_, _<_};
 ghost use lib.ListN.{length};
-ghost use Rattle.model.specs.Res.{mapRes};
+ghost use Rattle.model.specs.Res.{mapRes, valueOf};
 ghost use Rattle.model.specs.Outline.{outline, components};
 ghost use Rattle.model.specs.Glyf.{width};
-ghost use Rattle.outline.specs.Places.{idsFrom};
+ghost use Rattle.outline.specs.Places.{idsFrom, endFrom, keptLength};
+ghost use Rattle.glyf.specs.Pieces.{lengthAt};
 ghost use Rattle.remapper.specs.Scratch.{Linked, next};
 ghost use Rattle.remapper.specs.State.{Walking, Numbering};
 ghost use Rattle.closure.specs.Closes.{partsIn, walkIn, Offsets, Closes};
 ghost use Rattle.closure.specs.Turns.{Opened, Underway, Turned, Ran, Numbered};
 
-// So many glyphs are kept, or the refusal.
+// So many glyphs are kept, their outlines' lengths together (odd ones raised by 1, and as they are), or the refusal.
 pub enum Closed {
-    Kept(usize),
+    Kept {
+        kept: usize,
+        even: usize,
+        raw: usize,
+    },
     No(u32),
 }
 
-// A turn of the walk: it goes on, with so many numbered and so many requests left to read; it has ended; or the refusal.
+// An outline was read, and so many bytes of it are kept; or it is unreadable.
+enum Read {
+    Kept(usize),
+    Bad,
+}
+
+// A turn of the walk: it goes on, with so many numbered, so many requests left to read and so many bytes kept of the outline
+// that it read; it has ended; or the refusal.
 enum Step {
-    On(usize, usize),
+    On(usize, usize, usize),
     End,
     No(u32),
 }
 
-// Offers a composite's components; false if a record is cut or has an id without a glyph.
-fn offer_components(b: &[u8], s: &mut [u16], n: usize) -> bool
+// Offers a composite's components; Bad if a record is cut or has an id without a glyph.
+// "bytes after the last record are kept only if that record's flags hold 0x0100".
+fn offer_components(b: &[u8], s: &mut [u16], n: usize) -> Read
     requires { ⌜ (n ≤ 65536) × Linked n (now s) ⌝ }
-    ensures { λ r. ⌜ Opened n (now (s .entry)) (now (s .exit)) (idsFrom n (now (b .entry)) 10) r ⌝ }
+    ensures { λ r. ⌜ Opened n (now (s .entry)) (now (s .exit)) (idsFrom n (now (b .entry)) 10) (valueOf 0 (endFrom n (now (b .entry)) 10)) r ⌝ }
 {
     let mut at = 10;
     loop {
@@ -44,39 +58,42 @@ fn offer_components(b: &[u8], s: &mut [u16], n: usize) -> bool
                 remapper::offer(s, n, id);
                 at = next;
             }
-            Component::Last(id, _, _) => {
+            Component::Last(id, next, keep) => {
                 remapper::offer(s, n, id);
-                return true;
+                if keep {
+                    return Read::Kept(b.len());
+                }
+                return Read::Kept(next);
             }
             Component::Bad => {
-                return false;
+                return Read::Bad;
             }
         }
     }
 }
 
 // "read its whole outline; only then push": what is offered of a bad one doesn't matter, since the walk is refused.
-fn read_outline(b: &[u8], s: &mut [u16], n: usize) -> bool
+fn read_outline(b: &[u8], s: &mut [u16], n: usize) -> Read
     requires { ⌜ (n ≤ 65536) × Linked n (now s) ⌝ }
-    ensures { λ r. ⌜ Opened n (now (s .entry)) (now (s .exit)) (mapRes components (outline n (now (b .entry)))) r ⌝ }
+    ensures { λ r. ⌜ Opened n (now (s .entry)) (now (s .exit)) (mapRes components (outline n (now (b .entry)))) (keptLength n (now (b .entry))) r ⌝ }
 {
     let shape = outline::shape_of(b);
     match shape {
-        Shape::Empty => true,
-        Shape::Simple => true,
+        Shape::Empty => Read::Kept(0),
+        Shape::Simple => Read::Kept(b.len()),
         Shape::Composite => offer_components(b, s, n),
-        Shape::Bad => false,
+        Shape::Bad => Read::Bad,
     }
 }
 
-fn read_glyph(loca: &[u8], glyf: &[u8], long: bool, s: &mut [u16], n: usize, g: usize) -> bool
+fn read_glyph(loca: &[u8], glyf: &[u8], long: bool, s: &mut [u16], n: usize, g: usize) -> Read
     requires { ⌜ (n ≤ 65536) × (g < n) × Offsets (width long) n (now loca) × Linked n (now s) ⌝ }
-    ensures { λ r. ⌜ Opened n (now (s .entry)) (now (s .exit)) (partsIn (width long) n (now (loca .entry)) (now (glyf .entry)) g) r ⌝ }
+    ensures { λ r. ⌜ Opened n (now (s .entry)) (now (s .exit)) (partsIn (width long) n (now (loca .entry)) (now (glyf .entry)) g) (lengthAt (width long) n (now (loca .entry)) (now (glyf .entry)) g) r ⌝ }
 {
     let span = outline::locate(loca, glyf, long, g);
     match span {
         Span::At(start, end) => read_outline(&glyf[start..end], s, n),
-        Span::Bad => false,
+        Span::Bad => Read::Bad,
     }
 }
 
@@ -91,16 +108,17 @@ fn read_request(
     left: usize,
 ) -> Step
     requires { ⌜ (n ≤ 65536) × Offsets (width long) n (now loca) × Underway n (now s) count left × (next n (now s) 0 ≡ 0) ⌝ }
-    ensures { λ r. ⌜ Turned (partsIn (width long) n (now (loca .entry)) (now (glyf .entry))) n (now (s .entry)) (now (s .exit)) count left r ⌝ }
+    ensures { λ r. ⌜ Turned (partsIn (width long) n (now (loca .entry)) (now (glyf .entry))) (lengthAt (width long) n (now (loca .entry)) (now (glyf .entry))) n (now (s .entry)) (now (s .exit)) count left r ⌝ }
 {
     if left == 0 {
         return Step::End;
     }
     let q = remapper::old_id(s, left - 1);
-    if read_glyph(loca, glyf, long, s, n, q) {
-        return Step::On(count, left - 1);
+    let r = read_glyph(loca, glyf, long, s, n, q);
+    match r {
+        Read::Kept(length) => Step::On(count, left - 1, length),
+        Read::Bad => Step::No(3),
     }
-    Step::No(3)
 }
 
 // "Take the top one; number it if unnumbered (the 65,536th is 7)": a component that waits has no number.
@@ -115,16 +133,17 @@ fn take_component(
     left: usize,
 ) -> Step
     requires { ⌜ (n ≤ 65536) × Offsets (width long) n (now loca) × Underway n (now s) count left × (c ≡ next n (now s) 0) × (0 < c) ⌝ }
-    ensures { λ r. ⌜ Turned (partsIn (width long) n (now (loca .entry)) (now (glyf .entry))) n (now (s .entry)) (now (s .exit)) count left r ⌝ }
+    ensures { λ r. ⌜ Turned (partsIn (width long) n (now (loca .entry)) (now (glyf .entry))) (lengthAt (width long) n (now (loca .entry)) (now (glyf .entry))) n (now (s .entry)) (now (s .exit)) count left r ⌝ }
 {
     if remapper::MOST <= count {
         return Step::No(7);
     }
     remapper::take_top(s, n, c, count);
-    if read_glyph(loca, glyf, long, s, n, c) {
-        return Step::On(count + 1, left);
+    let r = read_glyph(loca, glyf, long, s, n, c);
+    match r {
+        Read::Kept(length) => Step::On(count + 1, left, length),
+        Read::Bad => Step::No(3),
     }
-    Step::No(3)
 }
 
 fn turn(
@@ -137,7 +156,7 @@ fn turn(
     left: usize,
 ) -> Step
     requires { ⌜ (n ≤ 65536) × Offsets (width long) n (now loca) × Underway n (now s) count left ⌝ }
-    ensures { λ r. ⌜ Turned (partsIn (width long) n (now (loca .entry)) (now (glyf .entry))) n (now (s .entry)) (now (s .exit)) count left r ⌝ }
+    ensures { λ r. ⌜ Turned (partsIn (width long) n (now (loca .entry)) (now (glyf .entry))) (lengthAt (width long) n (now (loca .entry)) (now (glyf .entry))) n (now (s .entry)) (now (s .exit)) count left r ⌝ }
 {
     let c = remapper::top(s, n);
     if c == 0 {
@@ -146,22 +165,26 @@ fn turn(
     take_component(loca, glyf, long, s, n, c, count, left)
 }
 
-// "Repeat until empty."
+// "Repeat until empty." "Add each length, odd ones raised by 1."
 fn run(loca: &[u8], glyf: &[u8], long: bool, s: &mut [u16], n: usize, count: usize) -> Closed
     requires { ⌜ (n ≤ 65536) × Offsets (width long) n (now loca) × Numbering n (now s) count ⌝ }
-    ensures { λ r. ⌜ Ran (partsIn (width long) n (now (loca .entry)) (now (glyf .entry))) n (now (s .entry)) (now (s .exit)) count r ⌝ }
+    ensures { λ r. ⌜ Ran (partsIn (width long) n (now (loca .entry)) (now (glyf .entry))) (lengthAt (width long) n (now (loca .entry)) (now (glyf .entry))) n (now (s .entry)) (now (s .exit)) count r ⌝ }
 {
     let mut k = count;
     let mut left = count;
+    let mut even = 0;
+    let mut raw = 0;
     loop {
         let t = turn(loca, glyf, long, s, n, k, left);
         match t {
-            Step::On(a, b) => {
+            Step::On(a, b, length) => {
                 k = a;
                 left = b;
+                even += length + length % 2;
+                raw += length;
             }
             Step::End => {
-                return Closed::Kept(k);
+                return Closed::Kept { kept: k, even, raw };
             }
             Step::No(e) => {
                 return Closed::No(e);
@@ -203,7 +226,7 @@ pub fn close_over(
     scratch: &mut [u16],
 ) -> Closed
     requires { ⌜ (n ≤ 65536) × (4 * n ≤ length (now scratch)) × Offsets (width long) n (now loca) ⌝ }
-    ensures { λ r. ⌜ Closes (walkIn (width long) n (now (loca .entry)) (now (glyf .entry)) (now (ids .entry))) n (now (scratch .entry)) (now (scratch .exit)) r ⌝ }
+    ensures { λ r. ⌜ Closes (lengthAt (width long) n (now (loca .entry)) (now (glyf .entry))) (walkIn (width long) n (now (loca .entry)) (now (glyf .entry)) (now (ids .entry))) n (now (scratch .entry)) (now (scratch .exit)) r ⌝ }
 {
     if n == 0 {
         return Closed::No(3);

@@ -13,7 +13,7 @@ use Rattle.model.specs.Bytes.{Bytes, part, member, place}
 use Rattle.model.specs.Font.{Tables}
 use Rattle.model.specs.Glyf.{Width, short, long, widthOf, entrySize, entry, glyphs, glyphBytes}
 use Rattle.model.specs.Outline.{Outline, empty, simple, composite, outline, components, idOf, renumberRecord, renumber, written}
-use Rattle.model.specs.Cut.{count, outlineOf, partsOf, pieceOf}
+use Rattle.model.specs.Cut.{count, outlineOf, pieceOf}
 use Rattle.model.proofs.Res.{true-false, EachOk, each-inv}
 use Rattle.outline.specs.Places.{spanAt, spanOf, keptLength}
 use Rattle.outline.specs.declared.Span.the-variants.{At, Bad}
@@ -31,10 +31,6 @@ pub each-piece-of : (t : Tables) (new : ℕ → ℕ) (xs : List ℕ) → each (p
 each-piece-of t new [] = refl
 each-piece-of t new (x ∷ xs) =
     ap₂ (λ a m. a >>= λ y. m >>= λ ys. ok (y ∷ ys)) (piece-of t new x) (each-piece-of t new xs)
-
-pub parts-at : (t : Tables) (g : ℕ) → partsOf t g ≡ mapRes components (outlineAt (widthOf (t .head)) (count t) (t .loca) (t .glyf) g)
-unfolding partsOf outlineOf outlineAt
-parts-at t g = refl
 
 -- a font with glyphs has an entry more
 pub entries-all : (w : Width) (loca : Bytes) → 0 < glyphs w loca → entrySize w * (glyphs w loca + 1) ≤ length loca

@@ -4,9 +4,10 @@ use mathlib.Core.List.{[], _++_, append-assoc, append-nil}
 use Prim.Native.Nat.{ℕ, _+_, _-_, _≤_}
 use native.Mathlib.Omega.{arith}
 use native.Mathlib.Nat.{add-assoc, add-zero, add-sub-of-le}
-use lib.ListN.{length, take, drop, length-append, take-append-drop}
+use lib.ListN.{length, take, drop, length-append, length-take, length-drop, take-append-drop}
 use lib.Seq.{take-append-add, take-append-le, drop-append-add, drop-append-le, length-take-le, drop-drop, take-add}
-use Rattle.model.specs.Bytes.{Bytes, put, over, part}
+use borrow.Rule.Slice.PartMut.{putMid}
+use Rattle.model.specs.Bytes.{Bytes, put, part}
 use Rattle.model.proofs.Bytes.{length-put}
 use Rattle.model.proofs.Puts.{put-same}
 use Rattle.glyf.specs.Pieces.{Placed}
@@ -45,6 +46,22 @@ put-in d x y at q h k =
     e : length (take at d) ≡ at
     e = length-take-le at d (omega arith)
 
+-- a put in the part from place a on, which is lent and comes back
+pub put-lent : (a k q : ℕ) (xs z y : Bytes) → a ≤ length xs → q + length y ≤ length z → putMid a k xs (put z q y) ≡ put (putMid a k xs z) (a + q) y
+put-lent a k q xs z y h l =
+    ap (λ (r : Bytes). take a xs ++ r) (sym (put-inside z (drop k (drop a xs)) y q l))
+    ∙ sym (put-behind (take a xs) (z ++ drop k (drop a xs)) y q)
+    ∙ ap (λ (m : ℕ). put (putMid a k xs z) (m + q) y) (length-take-le a xs h)
+
+pub put-part : (a q : ℕ) (xs y : Bytes) → a + q + length y ≤ length xs
+    → putMid a (length xs - a) xs (put (take (length xs - a) (drop a xs)) q y) ≡ put xs (a + q) y
+put-part a q xs y h =
+    put-lent a k q xs (take k (drop a xs)) y (omega arith) (simp (length-take, length-drop) (omega arith))
+    ∙ ap (λ (z : Bytes). put z (a + q) y) (ap (λ (r : Bytes). take a xs ++ r) (take-append-drop k (drop a xs)) ∙ take-append-drop a xs)
+  where
+    k : ℕ
+    k = length xs - a
+
 -- the record r behind `done` gets y at its place q
 pub put-record : (d done r k y : Bytes) (at p q : ℕ) → length done ≡ p → at + length (done ++ (r ++ k)) ≤ length d → q + length y ≤ length r
     → put (put d at (done ++ (r ++ k))) (at + p + q) y ≡ put d at ((done ++ put r q y) ++ k)
@@ -64,18 +81,9 @@ part-split b at next kept h k =
     e : kept - at ≡ next - at + (kept - next)
     e = omega arith
 
--- bytes put again, as many or more
+-- bytes put again, as many
 pub put-twice : (d o x : Bytes) (at : ℕ) → at + length x ≤ length d → o ≡ put d at x → o ≡ put o at x
 put-twice d o x at h e = e ∙ sym (put-same d at x x refl h) ∙ ap (λ (z : Bytes). put z at x) (sym e)
-
-pub over-again : (d p q : Bytes) → length p ≤ length q → over q (over p d) ≡ over q d
-unfolding over
-over-again d p q h =
-    ap (λ (l : Bytes). q ++ l)
-    (ap (λ (m : ℕ). drop m (p ++ drop (length p) d)) (sym (add-sub-of-le h))
-    ∙ drop-append-add p (drop (length p) d) (length q - length p)
-    ∙ drop-drop (length q - length p) (length p) d
-    ∙ ap (λ (m : ℕ). drop m d) (add-sub-of-le h))
 
 pub placed-again : (d o e k bytes : Bytes) (at next : ℕ) → o ≡ put d at k → at + length k ≤ length d → next ≡ at + length k → Placed o e at next bytes → Placed d e at next bytes
 placed-again d o e k bytes at next q h l p =
@@ -85,12 +93,13 @@ placed-again d o e k bytes at next q h l p =
     }
 
 -- nothing put
+pub put-nothing : (d : Bytes) (at : ℕ) → put d at [] ≡ d
+unfolding put
+put-nothing d at = ap₂ (λ (a b : Bytes). a ++ b) (append-nil (take at d)) (ap (λ (m : ℕ). drop m d) (add-zero at)) ∙ take-append-drop at d
+
 pub placed-nothing : (d bytes : Bytes) (at : ℕ) → bytes ≡ [] → Placed d d at at bytes
 placed-nothing d bytes at e =
     record {
-      is-put = sym (ap (put d at) e ∙ nothing);
+      is-put = sym (ap (put d at) e ∙ put-nothing d at);
       behind = sym (ap (λ (l : Bytes). at + length l) e ∙ add-zero at);
     }
-  where
-    nothing : put d at [] ≡ d
-    nothing = unfold put in ap₂ (λ (a b : Bytes). a ++ b) (append-nil (take at d)) (ap (λ (m : ℕ). drop m d) (add-zero at)) ∙ take-append-drop at d

@@ -2,20 +2,20 @@
 use mathlib.Core.Path.{_≡_, refl, sym, ap, ap₂, _∙_}
 use mathlib.Core.Bool.{Bool, true, false}
 use mathlib.Core.List.{List, [], _∷_, _++_, map, append-assoc, append-nil}
-use Prim.Native.Nat.{ℕ, zero, suc, _+_, _*_, _/_, _%_, _≤_, _<_}
+use Prim.Native.Nat.{ℕ, zero, suc, _+_, _*_, _-_, _/_, _%_, _≤_, _<_}
 use native.Mathlib.Omega.{arith}
 use lib.Dec.{leb, ltb}
 use borrow.Author.Tests.{le-ltb, lt-ltb, ltb-false, leb-true, leb-false}
 use native.Mathlib.Nat.{add-assoc, add-zero, zero-add, mul-zero, mul-suc}
 use native.Mathlib.Numerals.{add-one}
 use lib.ListN.{length, take, getD, length-append, length-replicate}
-use lib.Seq.{take-suc, take-length, length-take-le}
+use lib.Seq.{take-suc, length-take-le}
 use Rattle.model.specs.Res.{pick}
 use Rattle.model.specs.Bytes.{Bytes, put, over, pad2, sum, concat}
 use Rattle.model.specs.Glyf.{Width, short, long, entrySize, unit, beEntry, size, newWidth, padded, newGlyf, newLoca, width}
-use Rattle.model.proofs.Bytes.{put-over, put-zero}
-use Rattle.glyf.proofs.Puts.{over-again}
-use Rattle.glyf.specs.Pieces.{raisedTo, mostOffset, Measured}
+use Rattle.model.proofs.Bytes.{length-over, over-nil, put-over, put-put}
+use Rattle.model.proofs.Puts.{put-swap}
+use Rattle.glyf.specs.Pieces.{raisedTo, mostOffset, bothTables, Measured}
 
 map-append : {A B : Type 0} (f : A → B) (xs ys : List A) → map f (xs ++ ys) ≡ map f xs ++ map f ys
 map-append f [] ys = refl
@@ -46,15 +46,6 @@ concat-more f xs i z h =
     ∙ ap concat (map-append f (take i xs) (getD xs i z ∷ []))
     ∙ concat-append (map f (take i xs)) (f (getD xs i z) ∷ [])
     ∙ ap (λ (s : Bytes). concat (map f (take i xs)) ++ s) (append-nil (f (getD xs i z)))
-
--- a run of pieces of any lengths: what is put behind the first i makes i + 1
-pub run-more : {A : Type 0} (f : A → Bytes) (xs : List A) (i : ℕ) (z : A) (d o : Bytes) (at : ℕ) → i < length xs
-    → at ≡ length (concat (map f (take i xs))) → o ≡ over (concat (map f (take i xs))) d
-    → put o at (f (getD xs i z)) ≡ over (concat (map f (take (i + 1) xs))) d
-run-more f xs i z d o at h e q =
-    ap (λ (o : Bytes). put o at (f (getD xs i z))) q
-    ∙ put-over (concat (map f (take i xs))) d (f (getD xs i z)) at (sym e)
-    ∙ ap (λ (p : Bytes). over p d) (sym (concat-more f xs i z h))
 
 pub length-padded : (w : Width) (b : Bytes) → length (padded w b) ≡ raisedTo w (length b)
 length-padded short b = length-append b _ ∙ ap (λ (x : ℕ). length b + x) (length-replicate (length b % 2) 0)
@@ -111,85 +102,57 @@ length-newLoca w at (b ∷ bs) =
     next short = omega arith
     next long = omega arith
 
-pub loca-start : (w : Width) (bs : List Bytes) (d o : Bytes) → o ≡ put d (entrySize w * 0) (beEntry w (0 / unit w)) → o ≡ over (newLoca w 0 (take 0 bs)) d
-loca-start w bs d o e = e ∙ ap (λ (m : ℕ). put d m (beEntry w (0 / unit w))) (mul-zero (entrySize w)) ∙ put-zero d (beEntry w (0 / unit w))
+pub length-entries : (w : Width) (bs : List Bytes) (i : ℕ) → i ≤ length bs → length (newLoca w 0 (take i bs)) ≡ entrySize w * (i + 1)
+length-entries w bs i h = length-newLoca w 0 (take i bs) ∙ ap (λ (m : ℕ). entrySize w * (m + 1)) (length-take-le i bs h)
 
-pub loca-more : (w : Width) (bs : List Bytes) (i : ℕ) (d o : Bytes) (at : ℕ) → i < length bs
-    → at ≡ length (newGlyf w (take (i + 1) bs)) → o ≡ over (newLoca w 0 (take i bs)) d
-    → put o (entrySize w * (i + 1)) (beEntry w (at / unit w)) ≡ over (newLoca w 0 (take (i + 1) bs)) d
-loca-more w bs i d o at h e q =
-    ap (λ (o : Bytes). put o (entrySize w * (i + 1)) (beEntry w (at / unit w))) q
-    ∙ put-over (newLoca w 0 (take i bs)) d (beEntry w (at / unit w)) (entrySize w * (i + 1))
-    (length-newLoca w 0 (take i bs) ∙ ap (λ (m : ℕ). entrySize w * (m + 1)) (length-take-le i bs (omega arith)))
-    ∙ ap (λ (l : Bytes). over l d) (sym grown)
+pub loca-more : (w : Width) (bs : List Bytes) (i at : ℕ) → i < length bs → at ≡ length (newGlyf w (take (i + 1) bs))
+    → newLoca w 0 (take i bs) ++ beEntry w (at / unit w) ≡ newLoca w 0 (take (i + 1) bs)
+loca-more w bs i at h e =
+    sym
+    (ap (newLoca w 0) (taken-more bs i [] h) ∙ newLoca-snoc w 0 (take i bs) (getD bs i [])
+    ∙ ap (λ (x : ℕ). newLoca w 0 (take i bs) ++ beEntry w (x / unit w)) ends)
   where
     ends : 0 + length (newGlyf w (take i bs ++ (getD bs i [] ∷ []))) ≡ at
     ends = zero-add (length (newGlyf w (take i bs ++ (getD bs i [] ∷ [])))) ∙ ap (λ (l : List Bytes). length (newGlyf w l)) (sym (taken-more bs i [] h)) ∙ sym e
-
-    grown : newLoca w 0 (take (i + 1) bs) ≡ newLoca w 0 (take i bs) ++ beEntry w (at / unit w)
-    grown =
-        ap (newLoca w 0) (taken-more bs i [] h) ∙ newLoca-snoc w 0 (take i bs) (getD bs i [])
-        ∙ ap (λ (x : ℕ). newLoca w 0 (take i bs) ++ beEntry w (x / unit w)) ends
 
 -- an earlier entry fits where a later one does
 pub entries-fit : (w : Width) (i m room : ℕ) → i ≤ m → entrySize w * (m + 1) ≤ room → entrySize w * (i + 1) ≤ room
 entries-fit short i m room h k = omega arith
 entries-fit long i m room h k = omega arith
 
-pub loca-begin : (w : Width) (bs : List Bytes) (d o : Bytes) → o ≡ put d (entrySize w * 0) (beEntry w (0 / unit w)) → o ≡ over (newLoca w 0 (take 0 bs)) o
-loca-begin w bs d o e =
-    loca-start w bs d o e
-    ∙ sym (over-again d (newLoca w 0 (take 0 bs)) (newLoca w 0 (take 0 bs)) (omega arith))
-    ∙ ap (over (newLoca w 0 (take 0 bs))) (sym (loca-start w bs d o e))
+pub entry-end : (w : Width) (i x : ℕ) → entrySize w * i + length (beEntry w x) ≡ entrySize w * (i + 1)
+entry-end short i x = omega arith
+entry-end long i x = omega arith
 
-pub mostOffset-small : (w : Width) → mostOffset w ≤ 4294967295
-mostOffset-small short = omega arith
-mostOffset-small long = omega arith
+-- both tables: with no outline, and with one more, whose start is its entry
+module _ (w : Width) (bs : List Bytes) (distance : ℕ) (d : Bytes) where
+  pub both-start : put d (distance + entrySize w * 0) (beEntry w (0 / unit w)) ≡ bothTables w (take 0 bs) distance d
+  unfolding bothTables
+  both-start =
+      ap₂ (λ (z : Bytes) (m : ℕ). put z m (beEntry w (0 / unit w))) (sym (over-nil d))
+      (ap (λ (m : ℕ). distance + m) (mul-zero (entrySize w)) ∙ add-zero distance)
 
-pub raised-small : (w : Width) (x : ℕ) → x < 4294967296 → raisedTo w x ≤ 4294967296
-raised-small short x h = omega arith
-raised-small long x h = omega arith
-
-pub loca-end : (w : Width) (bs : List Bytes) (i : ℕ) (d o e : Bytes) → i ≡ length bs → o ≡ put d (entrySize w * 0) (beEntry w (0 / unit w)) → e ≡ over (newLoca w 0 (take i bs)) o
-    → e ≡ over (newLoca w 0 bs) d
-loca-end w bs i d o e h q p =
-    p
-    ∙ ap₂ (λ (m : ℕ) (z : Bytes). over (newLoca w 0 (take m bs)) z) h (loca-start w bs d o q)
-    ∙ over-again d (newLoca w 0 (take 0 bs)) (newLoca w 0 (take (length bs) bs))
-    (rw (length-newLoca w 0 (take 0 bs), length-newLoca w 0 (take (length bs) bs)) (entries-fit w 0 (length (take (length bs) bs)) _ (omega arith) (omega arith)))
-    ∙ ap (λ (l : List Bytes). over (newLoca w 0 l) d) (take-length bs)
-
--- measuring: so far
-pub record Measuring (bs : List Bytes) (i even raw : ℕ) : Type 0 where
-  pub is-even : even ≡ size (take i bs)
-  pub is-raw : raw ≡ sum (map (λ (b : Bytes). length b) (take i bs))
-  pub even-small : even ≤ 4294967296 * i
-  pub raw-small : raw ≤ 4294967296 * i
-
-pub measuring-start : {bs : List Bytes} → Measuring bs 0 0 0
-measuring-start = record { is-even = refl; is-raw = refl; even-small = omega arith; raw-small = omega arith }
-
-module _ {bs : List Bytes} {i even raw : ℕ} (m : Measuring bs i even raw) where
-  pub measuring-more : (k up : ℕ) → i < length bs → k ≡ length (getD bs i []) → k < 4294967296 → up ≡ raisedTo short k → Measuring bs (i + 1) (even + up) (raw + k)
-  measuring-more k up h e small f =
-      record {
-        is-even =
-            ap₂ (λ (x y : ℕ). x + y) (m .is-even) (f ∙ ap (raisedTo short) e ∙ sym (length-padded short (getD bs i [])))
-            ∙ sym (sum-more (λ (b : Bytes). length (pad2 b)) bs i [] h);
-        is-raw = ap₂ (λ (x y : ℕ). x + y) (m .is-raw) e ∙ sym (sum-more (λ (b : Bytes). length b) bs i [] h);
-        even-small = omega (arith, m .even-small, f, small);
-        raw-small = omega (arith, m .raw-small, small);
-      }
-
-  pub measuring-end : i ≡ length bs → Measured bs even raw
-  measuring-end e =
-      record {
-        is-even = m .is-even ∙ ap size whole;
-        is-raw = m .is-raw ∙ ap (λ (l : List Bytes). sum (map (λ (b : Bytes). length b) l)) whole;
-      }
-    where
-      whole : take i bs ≡ bs
-      whole = ap (λ (m : ℕ). take m bs) e ∙ take-length bs
+  module _ (behind : length (newGlyf w bs) ≤ distance) (room : distance + entrySize w * (length bs + 1) ≤ length d) where
+    pub both-more : (i at next : ℕ) (o : Bytes) → i < length bs → at ≡ length (newGlyf w (take i bs)) → next ≡ length (newGlyf w (take (i + 1) bs))
+        → o ≡ bothTables w (take i bs) distance d
+        → put (put o at (padded w (getD bs i []))) (distance + entrySize w * (i + 1)) (beEntry w (next / unit w)) ≡ bothTables w (take (i + 1) bs) distance d
+    unfolding bothTables
+    both-more i at next o h is-at is-next so-far =
+        let g = newGlyf w (take i bs) in
+        let p = padded w (getD bs i []) in
+        let l = newLoca w 0 (take i bs) in
+        let size = length-entries w bs i (omega arith) in
+        let fits = entries-fit w i (length bs) (length d - distance) (omega arith) (omega arith) in
+        let grown : length (newGlyf w (take (i + 1) bs)) ≡ length g + length p = ap length (concat-more (padded w) bs i [] h) ∙ length-append g p in
+        let most = glyf-grows w bs (i + 1) in
+        let same = length-over g d (omega arith) in
+        let longer : length (over (g ++ p) d) ≡ length d = length-over (g ++ p) d (omega (arith, length-append g p)) in
+        ap (λ (z : Bytes). put (put z at p) (distance + entrySize w * (i + 1)) (beEntry w (next / unit w))) so-far
+        ∙ ap₂ (λ (z : Bytes) (m : ℕ). put z (distance + m) (beEntry w (next / unit w)))
+        (sym (put-swap (over g d) at p distance l (omega arith) (omega arith)) ∙ ap (λ (z : Bytes). put z distance l) (put-over g d p at (sym is-at)))
+        (sym size)
+        ∙ put-put (over (g ++ p) d) l (beEntry w (next / unit w)) distance (omega arith)
+        ∙ ap₂ (λ (x y : Bytes). put (over x d) distance y) (sym (concat-more (padded w) bs i [] h)) (loca-more w bs i next h is-next)
 
 -- what the caller goes by: the new width, the tables' lengths, and that they are small
 pub width-new : (bs : List Bytes) (wide : Bool) → wide ≡ ltb 131070 (size bs) → width wide ≡ newWidth (size bs)

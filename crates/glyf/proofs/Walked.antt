@@ -1,20 +1,22 @@
--- What the walk makes sure of is what measuring and writing ask for: the theorems about the closure, in this crate's terms.
-use mathlib.Core.Path.{_≡_, refl, sym, ap, _∙_, subst}
+-- What the walk makes sure of is what writing asks for: the theorems about the closure, in this crate's terms; and what it added up is what is written.
+use mathlib.Core.Path.{_≡_, refl, sym, ap, ap₂, _∙_, subst}
 use mathlib.Core.Bool.{true}
-use mathlib.Core.List.{List, []}
+use mathlib.Core.List.{List, [], _∷_, map}
 use Prim.Native.Nat.{ℕ, _+_, _*_, _≤_}
 use native.Mathlib.Omega.{arith}
 use lib.ListN.{length, getD, take, length-take}
-use Rattle.model.specs.Res.{Res, refuse, ok, isOk, valueOf}
-use Rattle.model.specs.Bytes.{member, place}
+use Rattle.model.specs.Res.{Res, refuse, ok, each, isOk, valueOf}
+use Rattle.model.specs.Bytes.{Bytes, pad2, sum, member, place}
 use Rattle.model.specs.Font.{Tables}
-use Rattle.model.specs.Glyf.{widthOf}
+use Rattle.model.specs.Glyf.{Width, short, widthOf}
 use Rattle.model.specs.Cut.{count, outlineOf, partsOf, closure}
+use Rattle.model.proofs.Res.{ok-inj, bind-inv}
 use Rattle.model.proofs.Thin.{ids}
 use Rattle.model.proofs.Least.{Roster}
 use Rattle.model.proofs.Closure.{closure-roster, pieces-known}
-use Rattle.glyf.specs.Pieces.{outlineAt, Readable, Numbered}
-use Rattle.glyf.proofs.Pieces.{each-piece-of, entries-all}
+use Rattle.glyf.specs.Pieces.{outlineAt, piece, pieces, lengthAt, raisedTo, Readable, Numbered, Measured}
+use Rattle.glyf.proofs.Pieces.{each-piece-of, entries-all, value-of, length-read}
+use Rattle.glyf.proofs.Tables.{length-padded}
 
 module _ (t : Tables) (qs r : List ℕ) (e : closure t qs ≡ ok r) where
   walked : Roster (count t) (partsOf t) qs r
@@ -47,3 +49,24 @@ module _ (t : Tables) (qs r : List ℕ) (e : closure t qs ≡ ok r) where
       ids-value : (m : Res (List ℕ)) → ids m ≡ valueOf [] m
       ids-value (refuse k) = refl
       ids-value (ok cs) = refl
+
+-- the roster's lengths are those of its pieces
+module _ (w : Width) (n : ℕ) (loca glyf : Bytes) where
+  lengths-each : (new k : ℕ → ℕ) (h : Bytes → ℕ) → ((b : Bytes) → h b ≡ k (length b)) → (xs : List ℕ) (bs : List Bytes) → each (piece w n loca glyf new) xs ≡ ok bs
+      → map (λ (g : ℕ). k (lengthAt w n loca glyf g)) xs ≡ map h bs
+  lengths-each new k h is [] bs e = ap (map h) (ok-inj e)
+  lengths-each new k h is (x ∷ xs) bs e =
+      let a = bind-inv (piece w n loca glyf new x) _ bs e in
+      let c = bind-inv (each (piece w n loca glyf new) xs) _ bs (a .then) in
+      ap₂ {C = List ℕ} (λ (y : ℕ) (l : List ℕ). y ∷ l) (ap k (sym (length-read w n loca glyf new x (a .value) (a .first))) ∙ sym (is (a .value))) (lengths-each new k h is xs (c .value) (c .first))
+      ∙ ap (map h) (ok-inj (c .then))
+
+  pub measured-roster : (roster : List ℕ) → Readable w n loca glyf roster
+      → Measured (pieces w n loca glyf roster) (sum (map (λ (g : ℕ). raisedTo short (lengthAt w n loca glyf g)) roster)) (sum (map (lengthAt w n loca glyf) roster))
+  unfolding pieces
+  measured-roster roster r =
+      let all = value-of [] (each (piece w n loca glyf (place roster)) roster) (r .read) in
+      record {
+        is-even = ap sum (lengths-each (place roster) (raisedTo short) (λ (b : Bytes). length (pad2 b)) (length-padded short) roster (pieces w n loca glyf roster) all);
+        is-raw = ap sum (lengths-each (place roster) (λ (x : ℕ). x) (λ (b : Bytes). length b) (λ b. refl) roster (pieces w n loca glyf roster) all);
+      }

@@ -1,25 +1,28 @@
 -- Writing glyph by glyph: each has room and is read, and what is put behind the first i outlines makes i + 1.
 use mathlib.Core.Path.{_≡_, refl, sym, ap, ap₂, _∙_, subst}
-use mathlib.Core.Bool.{Bool, true, false}
+use mathlib.Core.Bool.{true, false}
 use mathlib.Core.List.{List, [], _++_, map}
-use Prim.Native.Nat.{ℕ, _+_, _*_, _-_, _%_, _≤_, _<_}
+use Prim.Native.Nat.{ℕ, _+_, _*_, _-_, _/_, _≤_, _<_}
 use native.Mathlib.Omega.{arith}
-use native.Mathlib.Nat.{add-sub-cancel-left}
-use lib.ListN.{length, take, getD, replicate, length-append, length-map, length-replicate, List·getD-map}
+use lib.ListN.{length, take, drop, getD, length-take, length-drop}
 use lib.Seq.{length-take-le, getD-take, take-length}
+use borrow.Rule.Slice.PartMut.{putMid}
 use Rattle.model.specs.Res.{Res, refuse, ok, mapRes, isOk, valueOf}
-use Rattle.model.specs.Bytes.{Bytes, part, put, over, pad2, member, place}
-use Rattle.model.specs.Glyf.{width, Width, short, long, entrySize, size, padded, newGlyf}
+use Rattle.model.specs.Bytes.{Bytes, part, put, member, place}
+use Rattle.model.specs.Glyf.{Width, short, long, entrySize, unit, beEntry, size, padded, newGlyf}
 use Rattle.model.specs.Outline.{Outline, outline, renumber, written}
 use Rattle.model.proofs.Res.{true-false}
-use Rattle.model.proofs.Bytes.{put-put}
+use Rattle.model.proofs.Bytes.{length-put}
 use Rattle.outline.specs.Places.{spanAt, keptLength}
 use Rattle.outline.specs.declared.Span.the-variants.{At, Bad}
 use Rattle.outline.proofs.Glyphs.{kept-renumbered}
-use Rattle.glyf.specs.Pieces.{outlineAt, piece, pieces, lengthAt, raisedTo, newFrom, bytesOf, Readable, mostOffset, OutlineRoom, PieceRoom, GlyfRoom, LocaRoom, Placed}
+use Rattle.glyf.specs.declared.Run.{Run}
+use Rattle.glyf.specs.Pieces.{outlineAt, piece, pieces, lengthAt, raisedTo, newFrom, bytesOf, Readable, mostOffset, OutlineRoom, PieceRoom, bothTables, TablesRoom, Placed, zerosBehind, withRun, RunRoom}
+use Rattle.glyf.proofs.Puts.{put-part}
 use Rattle.glyf.proofs.Composite.{isOk-map}
-use Rattle.glyf.proofs.Pieces.{outline-there, outline-nowhere, length-there, member-at, entries-at, piece-at, piece-agree, length-piece-at, length-pieces, within-pieces, length-small}
-use Rattle.glyf.proofs.Tables.{run-more, glyf-more, glyf-grows, length-padded, raised-small, sum-small}
+use Rattle.glyf.proofs.Runs.{run-aside, padded-behind, raised-behind}
+use Rattle.glyf.proofs.Pieces.{outline-there, outline-nowhere, length-there, member-at, entries-at, piece-at, piece-agree, length-piece-at, length-pieces, within-pieces}
+use Rattle.glyf.proofs.Tables.{glyf-more, glyf-grows, length-padded, entries-fit, entry-end, both-more}
 
 raised-least : (w : Width) (x : ℕ) → x ≤ raisedTo w x
 raised-least short x = omega arith
@@ -48,33 +51,24 @@ module _ (w : Width) (n : ℕ) (loca glyf : Bytes) (g : ℕ) where
         room = omega (arith, r .room, raised-least to (lengthAt w n loca glyf g), length-there w n loca glyf g e);
       }
 
+  -- and its padding
+  module _ (to : Width) (new : ℕ → ℕ) {start end : ℕ} (e : spanAt w loca glyf g ≡ At start end) (size : ℕ) (h : size ≡ length (bytesOf n new (part glyf start (end - start)))) where
+    pub padded-there : bytesOf n new (part glyf start (end - start)) ++ zerosBehind to size ≡ padded to (valueOf [] (piece w n loca glyf new g))
+    padded-there =
+        sym
+        (ap (padded to) (piece-there new e) ∙ padded-behind to (bytesOf n new (part glyf start (end - start)))
+        ∙ ap (λ (m : ℕ). bytesOf n new (part glyf start (end - start)) ++ zerosBehind to m) (sym h))
+
+    pub padding-room : (scratch : List ℕ) (out : Bytes) (at : ℕ) → PieceRoom w to n loca glyf scratch g out at → at + size + length (zerosBehind to size) ≤ length out
+    padding-room scratch out at r =
+        let k : lengthAt w n loca glyf g ≡ size = length-there w n loca glyf g e ∙ sym (h ∙ length-bytes n new (part glyf start (end - start))) in
+        omega (arith, r .room, ap (raisedTo to) k ∙ raised-behind to size)
+
   pub never-nowhere : {C : Type 0} → spanAt w loca glyf g ≡ Bad → isOk (outlineAt w n loca glyf g) ≡ true → C
   never-nowhere e h = true-false (sym h ∙ ap isOk (outline-nowhere w n loca glyf g e))
 
--- its padding
-pub placed-long : (wide : Bool) (d o x y : Bytes) (at next : ℕ) → wide ≡ true → x ≡ y → Placed d o at next y → Placed d o at next (padded (width wide) x)
-placed-long wide d o x y at next e q p = subst (Placed d o at next) (sym (ap (λ (t : Bool). padded (width t) x) e ∙ q)) p
-
-pub placed-short : (wide : Bool) (d o z x y : Bytes) (at next : ℕ) → wide ≡ false → x ≡ y → at ≤ length d → Placed d o at next y
-    → z ≡ put o next (replicate ((next - at) % 2) 0) → Placed d z at (next + (next - at) % 2) (padded (width wide) x)
-placed-short wide d o z x y at next e q h p f =
-    subst (Placed d z at (next + (next - at) % 2)) (sym (ap (λ (t : Bool). padded (width t) x) e ∙ ap (padded short) q))
-    (record { is-put = written-too; behind = behind-too })
-  where
-    odd : (next - at) % 2 ≡ length y % 2
-    odd = ap (λ (m : ℕ). m % 2) (ap (λ (m : ℕ). m - at) (p .behind) ∙ add-sub-cancel-left at (length y))
-
-    written-too : z ≡ put d at (y ++ replicate (length y % 2) 0)
-    written-too =
-        f ∙ ap₂ (λ (o : Bytes) (m : ℕ). put o m (replicate ((next - at) % 2) 0)) (p .is-put) (p .behind)
-        ∙ ap (λ (m : ℕ). put (put d at y) (at + length y) (replicate m 0)) odd
-        ∙ put-put d y (replicate (length y % 2) 0) at h
-
-    behind-too : next + (next - at) % 2 ≡ at + length (y ++ replicate (length y % 2) 0)
-    behind-too = omega (arith, p .behind, length-append y (replicate (length y % 2) 0), length-replicate {A = ℕ} (length y % 2) 0)
-
 -- the roster in the scratch
-module _ {w to : Width} {n : ℕ} {loca glyf : Bytes} {scratch : List ℕ} {kept : ℕ} {d : Bytes} (r : GlyfRoom w to n loca glyf scratch kept d) where
+module _ {w to : Width} {n : ℕ} {loca glyf : Bytes} {scratch : List ℕ} {kept : ℕ} {d : Bytes} {distance : ℕ} (r : TablesRoom w to n loca glyf scratch kept d distance) where
   abbrev bs : List Bytes
   bs = pieces w n loca glyf (take kept scratch)
 
@@ -83,6 +77,9 @@ module _ {w to : Width} {n : ℕ} {loca glyf : Bytes} {scratch : List ℕ} {kept
 
   roster-length : length (take kept scratch) ≡ kept
   roster-length = length-take-le kept scratch (omega (arith, r .numbered .roster, r .numbered .room))
+
+  pieces-length : length bs ≡ kept
+  pieces-length = length-pieces readable ∙ roster-length
 
   module _ (i : ℕ) (below : i < kept) where
     inside : i < length (take kept scratch)
@@ -125,43 +122,52 @@ module _ {w to : Width} {n : ℕ} {loca glyf : Bytes} {scratch : List ℕ} {kept
             ∙ ap (λ (x : ℕ). length (newGlyf to (take i bs)) + x) (length-padded to (getD bs i []))
             ∙ sym glyf-next
 
-        pub writing-more : out ≡ over (newGlyf to (take i bs)) d → after ≡ over (newGlyf to (take (i + 1) bs)) d
+        pub writing-more : out ≡ bothTables to (take i bs) distance d
+            → put after (distance + entrySize to * (i + 1)) (beEntry to (next / unit to)) ≡ bothTables to (take (i + 1) bs) distance d
         writing-more so-far =
-            p .is-put ∙ ap (λ (b : Bytes). put out at (padded to b)) written-here
-            ∙ run-more (padded to) bs i [] d out at (within-pieces readable i inside) is-at so-far
+            ap (λ (o : Bytes). put o (distance + entrySize to * (i + 1)) (beEntry to (next / unit to))) (p .is-put ∙ ap (λ (b : Bytes). put out at (padded to b)) written-here)
+            ∙ both-more to bs distance d (r .behind) (subst (λ (m : ℕ). distance + entrySize to * (m + 1) ≤ length d) (sym pieces-length) (r .room))
+            i at next out (within-pieces readable i inside) is-at writing-next so-far
 
-  pub writing-end : (out : Bytes) (i : ℕ) → i ≡ kept → out ≡ over (newGlyf to (take i bs)) d → out ≡ over (newGlyf to bs) d
+  pub writing-end : (out : Bytes) (i : ℕ) → i ≡ kept → out ≡ bothTables to (take i bs) distance d → out ≡ bothTables to bs distance d
   writing-end out i e q =
-      q ∙ ap (λ (m : ℕ). over (newGlyf to (take m bs)) d) (e ∙ sym (length-pieces readable ∙ roster-length))
-      ∙ ap (λ (l : List Bytes). over (newGlyf to l) d) (take-length bs)
+      q ∙ ap (λ (m : ℕ). bothTables to (take m bs) distance d) (e ∙ sym pieces-length)
+      ∙ ap (λ (l : List Bytes). bothTables to l distance d) (take-length bs)
 
--- the offsets of loca
-module _ {w to : Width} {n : ℕ} {loca glyf : Bytes} {roster : List ℕ} {d : Bytes} (r : LocaRoom w to n loca glyf roster d) (i : ℕ) (h : i < length roster) where
-  abbrev outlines : List Bytes
-  outlines = pieces w n loca glyf roster
+  -- entry number i can be written to loca's part of the output, and then stands there
+  module _ (i at : ℕ) (h : i ≤ kept) (out : Bytes) (same : length out ≡ length d) (is-at : at ≡ length (newGlyf to (take i bs))) where
+    abbrev lent : Bytes
+    lent = take (length out - distance) (drop distance out)
 
-  pub offset-next : (offset k up : ℕ) → offset ≡ length (newGlyf to (take i outlines)) → k ≡ lengthAt w n loca glyf (getD roster i 0) → up ≡ raisedTo to k
-      → offset + up ≡ length (newGlyf to (take (i + 1) outlines))
-  offset-next offset k up e f q =
-      ap₂ (λ (x y : ℕ). x + y) e (q ∙ ap (raisedTo to) (f ∙ length-piece-at (r .readable) i h)) ∙ sym (glyf-more to outlines i (within-pieces (r .readable) i h))
+    fits : entrySize to * (i + 1) ≤ length out - distance
+    fits = entries-fit to i kept (length out - distance) h (omega (arith, r .room, same))
 
-  pub offset-fits : (offset : ℕ) → offset ≡ length (newGlyf to (take (i + 1) outlines)) → offset ≤ mostOffset to
-  offset-fits offset e = omega (arith, e, glyf-grows to outlines (i + 1), r .offsets)
+    pub entry-room : (entrySize to * (i + 1) ≤ length lent) × (at ≤ mostOffset to)
+    entry-room =
+        let l : length lent ≡ length out - distance = simp (length-take, length-drop) (omega arith) in
+        (rw l fits, omega (arith, is-at, glyf-grows to bs i, r .offsets))
 
--- a caller can add the sizes up: 65,535 lengths below 2^32
-pub sizes-small : (w : Width) (n : ℕ) (loca glyf : Bytes) (roster : List ℕ) → ((i : ℕ) → getD loca i 0 < 256) → Readable w n loca glyf roster
-    → size (pieces w n loca glyf roster) ≤ 281470681743360
-sizes-small w n loca glyf roster small r =
-    omega (arith, sum-small 4294967296 (map even bs) each-small, length-map bs even, length-pieces r, r .few)
-  where
-    bs : List Bytes
-    bs = pieces w n loca glyf roster
+    module _ (y : Bytes) (e : y ≡ put lent (entrySize to * i) (beEntry to (at / unit to))) where
+      pub entry-put : putMid distance (length out - distance) out y ≡ put out (distance + entrySize to * i) (beEntry to (at / unit to))
+      entry-put =
+          ap (putMid distance (length out - distance) out) e
+          ∙ put-part distance (entrySize to * i) out (beEntry to (at / unit to)) (omega (arith, entry-end to i (at / unit to), fits, r .room, same))
 
-    even : Bytes → ℕ
-    even b = length (pad2 b)
+      pub entry-same : length (putMid distance (length out - distance) out y) ≡ length d
+      entry-same =
+          ap length entry-put
+          ∙ length-put out (distance + entrySize to * i) (beEntry to (at / unit to)) (omega (arith, entry-end to i (at / unit to), fits, r .room, same))
+          ∙ same
 
-    each-small : (i : ℕ) → i < length (map even bs) → getD (map even bs) i 0 ≤ 4294967296
-    each-small i h =
-        let k : i < length roster = omega (arith, h, length-map bs even, length-pieces r) in
-        rw (List·getD-map even bs i [], length-padded short (getD bs i []), ← length-piece-at r i k)
-        (raised-small short (lengthAt w n loca glyf (getD roster i 0)) (length-small w n loca glyf small (getD roster i 0)))
+      -- with the run behind which it stands
+      module _ (run : Run) (q : RunRoom glyf run out) (ends : run .end ≡ at) where
+        pub entry-left : RunRoom glyf run (putMid distance (length out - distance) out y)
+        entry-left = record { there = q .there; within = q .within; room = omega (arith, q .room, entry-same, same) }
+
+        pub entry-there : put (withRun glyf run out) (distance + entrySize to * i) (beEntry to (at / unit to)) ≡ bothTables to (take i bs) distance d
+            → withRun glyf run (putMid distance (length out - distance) out y) ≡ bothTables to (take i bs) distance d
+        entry-there so-far =
+            ap (withRun glyf run) entry-put
+            ∙ run-aside q (distance + entrySize to * i) (beEntry to (at / unit to)) (omega (arith, ends, is-at, glyf-grows to bs i, r .behind))
+            (omega (arith, entry-end to i (at / unit to), fits, r .room, same))
+            ∙ so-far

@@ -3,12 +3,13 @@ use mathlib.Core.Path.{_≡_}
 use mathlib.Core.Bool.{true}
 use mathlib.Core.List.{List, [], map}
 use Prim.Native.Nat.{ℕ, _+_, _*_, _-_, _%_, _≤_, _<_}
-use lib.ListN.{length, getD, take}
+use lib.ListN.{length, getD, take, replicate}
 use Rattle.model.specs.Res.{Res, mapRes, each, isOk, valueOf, _>>=_}
-use Rattle.model.specs.Bytes.{Bytes, put, sum, member, place}
-use Rattle.model.specs.Glyf.{Width, short, long, entrySize, glyphBytes, size, newGlyf}
+use Rattle.model.specs.Bytes.{Bytes, part, put, over, sum, member, place}
+use Rattle.model.specs.Glyf.{Width, short, long, entrySize, glyphBytes, size, newGlyf, newLoca}
 use Rattle.model.specs.Outline.{Outline, outline, components, renumber, written}
 use Rattle.outline.specs.Places.{keptLength}
+use Rattle.glyf.specs.declared.Run.{Run}
 
 -- glyph g's outline; its bytes with new ids; those of the whole roster
 unfoldable pub outlineAt : Width → ℕ → Bytes → Bytes → ℕ → Res Outline
@@ -74,17 +75,38 @@ pub record PieceRoom (w to : Width) (n : ℕ) (loca glyf : Bytes) (scratch : Lis
   pub numbers : 2 * n ≤ length scratch
   pub room : at + raisedTo to (lengthAt w n loca glyf g) ≤ length out
 
--- all of them can be, and their offsets
-pub record GlyfRoom (w to : Width) (n : ℕ) (loca glyf : Bytes) (scratch : List ℕ) (kept : ℕ) (out : Bytes) : Type 0 where
-  pub numbered : Numbered w n loca glyf scratch kept
-  pub room : length (newGlyf to (pieces w n loca glyf (take kept scratch))) ≤ length out
+-- both new tables in one output that starts with glyf; loca stands at a distance
+unfoldable pub bothTables : Width → List Bytes → ℕ → Bytes → Bytes
+bothTables to bs distance out = put (over (newGlyf to bs) out) distance (newLoca to 0 bs)
 
-pub record LocaRoom (w to : Width) (n : ℕ) (loca glyf : Bytes) (roster : List ℕ) (out : Bytes) : Type 0 where
-  pub readable : Readable w n loca glyf roster
-  pub offsets : length (newGlyf to (pieces w n loca glyf roster)) ≤ mostOffset to
-  pub room : entrySize to * (length roster + 1) ≤ length out
+-- they can be written: the offsets fit, and loca stands behind glyf
+pub record TablesRoom (w to : Width) (n : ℕ) (loca glyf : Bytes) (scratch : List ℕ) (kept : ℕ) (out : Bytes) (distance : ℕ) : Type 0 where
+  pub numbered : Numbered w n loca glyf scratch kept
+  pub offsets : length (newGlyf to (pieces w n loca glyf (take kept scratch))) ≤ mostOffset to
+  pub behind : length (newGlyf to (pieces w n loca glyf (take kept scratch))) ≤ distance
+  pub room : distance + entrySize to * (kept + 1) ≤ length out
 
 -- bytes were put at a place, and the next place is behind them
 pub record Placed (d e : Bytes) (at next : ℕ) (bytes : Bytes) : Type 0 where
   pub is-put : e ≡ put d at bytes
   pub behind : next ≡ at + length bytes
+
+-- the zeros behind an outline of so many bytes
+abbrev pub zerosBehind : Width → ℕ → Bytes
+zerosBehind short size = replicate (size % 2) 0
+zerosBehind long size = []
+
+-- the output once the run is copied
+unfoldable pub withRun : Bytes → Run → Bytes → Bytes
+withRun glyf run out = put out (run .end - run .size) (part glyf (run .from) (run .size))
+
+-- it can be copied
+pub record RunRoom (glyf : Bytes) (run : Run) (out : Bytes) : Type 0 where
+  pub there : run .from + run .size ≤ length glyf
+  pub within : run .size ≤ run .end
+  pub room : run .end ≤ length out
+
+-- bytes were put behind a run, and another run is left
+pub record Moved (glyf : Bytes) (run : Run) (d : Bytes) (next : Run) (e : Bytes) (bytes : Bytes) : Type 0 where
+  pub placed : Placed (withRun glyf run d) (withRun glyf next e) (run .end) (next .end) bytes
+  pub left : RunRoom glyf next e

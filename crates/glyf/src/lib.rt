@@ -1,64 +1,27 @@
 // glyf and loca: the kept outlines one behind the other, with their components' new ids, and where each starts
-// (document 01, "glyf, loca"; the crate's glyf.rs). The walk has read every outline, so nothing is refused here:
-// `measure` adds up the lengths, from which the width of the new loca follows; then each table is written to its own part.
+// (document 01, "glyf, loca"; the crate's glyf.rs). The walk has read every outline, so nothing is refused here. It has
+// added up their lengths too, from which the width of the new loca follows. `write` writes both tables, since where an
+// outline ends in the one is an entry of the other.
 ghost use mathlib.Core.Path.{_≡_};
-ghost use Prim.Native.Nat.{_+_, _*_, _/_, _≤_, _<_};
+ghost use Prim.Native.Nat.{_+_, _*_, _-_, _/_, _≤_, _<_};
 ghost use mathlib.Core.List.{[]};
 ghost use lib.ListN.{length, take};
 ghost use Rattle.model.specs.Res.{valueOf};
-ghost use Rattle.model.specs.Bytes.{put, over, be16};
-ghost use Rattle.model.specs.Glyf.{width, entrySize, unit, beEntry, padded, newGlyf, newLoca};
+ghost use Rattle.model.specs.Bytes.{part, put, be16};
+ghost use Rattle.model.specs.Glyf.{width, entrySize, unit, beEntry, padded};
 ghost use Rattle.outline.specs.Places.{shapeOf};
 ghost use Rattle.outline.specs.declared.Shape.the-variants.{Composite};
-ghost use Rattle.glyf.specs.Pieces.{piece, pieces, lengthAt, raisedTo, newFrom, bytesOf, Readable, mostOffset, Measured, OutlineRoom, PieceRoom, GlyfRoom, LocaRoom, Placed};
+ghost use Rattle.glyf.specs.Pieces.{piece, pieces, newFrom, bytesOf, mostOffset, OutlineRoom, PieceRoom, TablesRoom, bothTables, Placed, zerosBehind, withRun, RunRoom, Moved};
 use outline::Component;
 use outline::Shape;
 use outline::Span;
 
-// The outlines' lengths together: odd ones raised by 1, and as they are.
-pub struct Sizes {
-    pub even: usize,
-    pub raw: usize,
-}
-
-// How many bytes of glyph g's outline are written again.
-fn kept_at(loca: &[u8], glyf: &[u8], long: bool, n: usize, g: usize) -> usize
-    requires { ⌜ entrySize (width long) * (g + 2) ≤ length (now loca) ⌝ }
-    ensures { λ r. ⌜ r ≡ lengthAt (width long) n (now (loca .entry)) (now (glyf .entry)) g ⌝ }
-{
-    let s = outline::locate(loca, glyf, long, g);
-    match s {
-        Span::At(start, end) => outline::kept_length(&glyf[start..end], n),
-        Span::Bad => 0,
-    }
-}
-
-// A length in a loca that counts in twos, or in bytes.
-fn raised(length: usize, long: bool) -> usize
-    requires { ⌜ length < 4294967296 ⌝ }
-    ensures { λ r. ⌜ r ≡ raisedTo (width long) length ⌝ }
-{
-    if long {
-        return length;
-    }
-    length + length % 2
-}
-
-// "Add each length, odd ones raised by 1".
-pub fn measure(loca: &[u8], glyf: &[u8], long: bool, n: usize, roster: &[u16]) -> Sizes
-    requires { ⌜ Readable (width long) n (now loca) (now glyf) (now roster) ⌝ }
-    ensures { λ r. ⌜ Measured (pieces (width long) n (now (loca .entry)) (now (glyf .entry)) (now (roster .entry))) (r .even) (r .raw) ⌝ }
-{
-    let mut even = 0;
-    let mut raw = 0;
-    let mut i = 0;
-    while i < roster.len() {
-        let k = kept_at(loca, glyf, long, n, roster[i] as usize);
-        even += raised(k, false);
-        raw += k;
-        i += 1;
-    }
-    Sizes { even, raw }
+// Outlines that stand side by side in the old glyf and in the new one, to be copied together: `size` bytes from `from`, whose place
+// in the new glyf ends at `end`.
+struct Run {
+    from: usize,
+    size: usize,
+    end: usize,
 }
 
 // An old id's new number. The walk numbered every id that is asked for; another would be 0.
@@ -107,25 +70,89 @@ fn write_composite(b: &[u8], n: usize, scratch: &[u16], out: &mut [u8], at: usiz
     }
 }
 
-// "Simple outlines are copied".
-fn write_outline(b: &[u8], n: usize, scratch: &[u16], out: &mut [u8], at: usize) -> usize
-    requires { ⌜ OutlineRoom n (now b) (now scratch) (now out) at ⌝ }
-    ensures { λ r. ⌜ Placed (now (out .entry)) (now (out .exit)) at r (bytesOf n (newFrom n (now (scratch .entry))) (now (b .entry))) ⌝ }
+// What is to be copied, copied.
+fn copy_run(glyf: &[u8], run: Run, out: &mut [u8])
+    requires { ⌜ RunRoom (now glyf) run (now out) ⌝ }
+    ensures { λ _. ⌜ now (out .exit) ≡ withRun (now (glyf .entry)) run (now (out .entry)) ⌝ }
 {
-    let s = outline::shape_of(b);
-    match s {
-        Shape::Simple => {
-            write::copy(b, out, at);
-            at + b.len()
-        }
-        Shape::Composite => write_composite(b, n, scratch, out, at),
-        Shape::Empty => at,
-        // Never: the walk read it.
-        Shape::Bad => at,
+    let from = run.from;
+    let behind = from + run.size;
+    write::copy(&glyf[from..behind], out, run.end - run.size);
+}
+
+// "Simple outlines are copied": one that stands behind the run makes it longer, another begins a new one.
+fn join(glyf: &[u8], start: usize, end: usize, run: Run, out: &mut [u8]) -> Run
+    requires { ⌜ RunRoom (now glyf) run (now out) × (start ≤ end) × (end ≤ length (now glyf)) × (run .end + (end - start) ≤ length (now out)) ⌝ }
+    ensures { λ r. ⌜ Moved (now (glyf .entry)) run (now (out .entry)) r (now (out .exit)) (part (now (glyf .entry)) start (end - start)) ⌝ }
+{
+    let size = end - start;
+    if start == run.from + run.size {
+        return Run {
+            from: run.from,
+            size: run.size + size,
+            end: run.end + size,
+        };
+    }
+    copy_run(glyf, run, out);
+    Run {
+        from: start,
+        size,
+        end: run.end + size,
     }
 }
 
-// Glyph g's outline, and behind it the zero that a short loca's even offsets need.
+// The outline from `start` to `end`. A composite ends the run.
+fn write_outline(
+    glyf: &[u8],
+    start: usize,
+    end: usize,
+    n: usize,
+    scratch: &[u16],
+    run: Run,
+    out: &mut [u8],
+) -> Run
+    requires { ⌜ RunRoom (now glyf) run (now out) × (start ≤ end) × (end ≤ length (now glyf)) × OutlineRoom n (part (now glyf) start (end - start)) (now scratch) (now out) (run .end) ⌝ }
+    ensures { λ r. ⌜ Moved (now (glyf .entry)) run (now (out .entry)) r (now (out .exit)) (bytesOf n (newFrom n (now (scratch .entry))) (part (now (glyf .entry)) start (end - start))) ⌝ }
+{
+    let s = outline::shape_of(&glyf[start..end]);
+    match s {
+        Shape::Simple => join(glyf, start, end, run, out),
+        Shape::Composite => {
+            copy_run(glyf, run, out);
+            let behind = write_composite(&glyf[start..end], n, scratch, out, run.end);
+            Run {
+                from: end,
+                size: 0,
+                end: behind,
+            }
+        }
+        Shape::Empty => run,
+        // Never: the walk read it.
+        Shape::Bad => run,
+    }
+}
+
+// Behind an outline of this size, the zero that a short loca's even offsets need. It ends the run.
+fn pad(glyf: &[u8], size: usize, wide: bool, run: Run, out: &mut [u8]) -> Run
+    requires { ⌜ RunRoom (now glyf) run (now out) × (run .end + length (zerosBehind (width wide) size) ≤ length (now out)) ⌝ }
+    ensures { λ r. ⌜ Moved (now (glyf .entry)) run (now (out .entry)) r (now (out .exit)) (zerosBehind (width wide) size) ⌝ }
+{
+    if wide {
+        return run;
+    }
+    if size % 2 == 0 {
+        return run;
+    }
+    copy_run(glyf, run, out);
+    write::zeros(out, run.end, 1);
+    Run {
+        from: 0,
+        size: 0,
+        end: run.end + 1,
+    }
+}
+
+// Glyph g's outline, padded.
 fn write_glyph(
     loca: &[u8],
     glyf: &[u8],
@@ -134,57 +161,20 @@ fn write_glyph(
     scratch: &[u16],
     g: usize,
     wide: bool,
+    run: Run,
     out: &mut [u8],
-    at: usize,
-) -> usize
-    requires { ⌜ PieceRoom (width long) (width wide) n (now loca) (now glyf) (now scratch) g (now out) at ⌝ }
-    ensures { λ r. ⌜ Placed (now (out .entry)) (now (out .exit)) at r (padded (width wide) (valueOf [] (piece (width long) n (now (loca .entry)) (now (glyf .entry)) (newFrom n (now (scratch .entry))) g))) ⌝ }
+) -> Run
+    requires { ⌜ RunRoom (now glyf) run (now out) × PieceRoom (width long) (width wide) n (now loca) (now glyf) (now scratch) g (now out) (run .end) ⌝ }
+    ensures { λ r. ⌜ Moved (now (glyf .entry)) run (now (out .entry)) r (now (out .exit)) (padded (width wide) (valueOf [] (piece (width long) n (now (loca .entry)) (now (glyf .entry)) (newFrom n (now (scratch .entry))) g))) ⌝ }
 {
     let s = outline::locate(loca, glyf, long, g);
     match s {
         Span::At(start, end) => {
-            let behind = write_outline(&glyf[start..end], n, scratch, out, at);
-            if wide {
-                return behind;
-            }
-            let odd = (behind - at) % 2;
-            write::zeros(out, behind, odd);
-            behind + odd
+            let next = write_outline(glyf, start, end, n, scratch, run, out);
+            pad(glyf, next.end - run.end, wide, next, out)
         }
         // Never: the walk read it.
-        Span::Bad => at,
-    }
-}
-
-// The new glyf, for a loca of the new width; the roster is the first `kept` numbers of the scratch.
-pub fn write_glyf(
-    loca: &[u8],
-    glyf: &[u8],
-    long: bool,
-    n: usize,
-    scratch: &[u16],
-    kept: usize,
-    wide: bool,
-    out: &mut [u8],
-)
-    requires { ⌜ GlyfRoom (width long) (width wide) n (now loca) (now glyf) (now scratch) kept (now out) ⌝ }
-    ensures { λ _. ⌜ now (out .exit) ≡ over (newGlyf (width wide) (pieces (width long) n (now (loca .entry)) (now (glyf .entry)) (take kept (now (scratch .entry))))) (now (out .entry)) ⌝ }
-{
-    let mut at = 0;
-    let mut i = 0;
-    while i < kept {
-        at = write_glyph(
-            loca,
-            glyf,
-            long,
-            n,
-            scratch,
-            scratch[i] as usize,
-            wide,
-            out,
-            at,
-        );
-        i += 1;
+        Span::Bad => run,
     }
 }
 
@@ -200,26 +190,43 @@ fn put_entry(out: &mut [u8], long: bool, i: usize, offset: usize)
     }
 }
 
-// "loca has N + 1 entries": 0, and the end of each outline.
-pub fn write_loca(
+// Both tables: the new glyf at the start of out, and the new loca at its distance. The roster is the first `kept` numbers of the
+// scratch. "loca has N + 1 entries": each outline's start, and the end of the last.
+pub fn write(
     loca: &[u8],
     glyf: &[u8],
     long: bool,
     n: usize,
-    roster: &[u16],
+    scratch: &[u16],
+    kept: usize,
     wide: bool,
     out: &mut [u8],
+    distance: usize,
 )
-    requires { ⌜ LocaRoom (width long) (width wide) n (now loca) (now glyf) (now roster) (now out) ⌝ }
-    ensures { λ _. ⌜ now (out .exit) ≡ over (newLoca (width wide) 0 (pieces (width long) n (now (loca .entry)) (now (glyf .entry)) (now (roster .entry)))) (now (out .entry)) ⌝ }
+    requires { ⌜ TablesRoom (width long) (width wide) n (now loca) (now glyf) (now scratch) kept (now out) distance ⌝ }
+    ensures { λ _. ⌜ now (out .exit) ≡ bothTables (width wide) (pieces (width long) n (now (loca .entry)) (now (glyf .entry)) (take kept (now (scratch .entry)))) distance (now (out .entry)) ⌝ }
 {
-    put_entry(out, wide, 0, 0);
-    let mut offset = 0;
+    let mut run = Run {
+        from: 0,
+        size: 0,
+        end: 0,
+    };
     let mut i = 0;
-    while i < roster.len() {
-        let k = kept_at(loca, glyf, long, n, roster[i] as usize);
-        offset += raised(k, wide);
+    while i < kept {
+        put_entry(&mut out[distance..], wide, i, run.end);
+        run = write_glyph(
+            loca,
+            glyf,
+            long,
+            n,
+            scratch,
+            scratch[i] as usize,
+            wide,
+            run,
+            out,
+        );
         i += 1;
-        put_entry(out, wide, i, offset);
     }
+    put_entry(&mut out[distance..], wide, kept, run.end);
+    copy_run(glyf, run, out);
 }

@@ -1,12 +1,12 @@
 -- The machine gives the list that document 01's words define: by induction on the text, with the line that has begun.
 use mathlib.Core.Path.{_≡_, refl, sym, ap, _∙_}
 use mathlib.Core.Bool.{Bool, true, false}
-use mathlib.Core.Option.{Option, none, some}
+use mathlib.Core.Option.{none, some}
 use mathlib.Core.List.{List, [], _∷_, _++_, map, append-nil, append-assoc}
-use Prim.Native.Nat.{ℕ, zero, suc, _+_, _*_, _-_, _≤_, _<_}
+use Prim.Native.Nat.{ℕ, zero, suc, _+_, _*_, _-_, _≤_}
 use native.Mathlib.Omega.{arith}
-use native.Mathlib.Nat.{add-zero, add-suc, suc-add}
-use borrow.Author.Tests.{lt-ltb, le-ltb, le-leb, lt-leb, eq-eqb, eqb-true, ltb-true, ltb-false, leb-true, leb-false}
+use native.Mathlib.Nat.{add-zero}
+use borrow.Author.Tests.{le-leb, lt-leb, eqb-true, ltb-true, ltb-false, leb-false}
 use lib.Dec.{leb, ltb, eqb}
 use lib.ListN.{length, length-append}
 use Rattle.model.specs.Res.{pick, both}

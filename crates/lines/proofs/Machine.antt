@@ -1,7 +1,7 @@
 -- The machine's cases, one law each; and a text read to a place is a text read byte by byte.
 use mathlib.Core.Path.{_≡_, refl, sym, ap, _∙_}
 use mathlib.Core.Bool.{Bool, true, false, not}
-use mathlib.Core.Option.{Option, none, some}
+use mathlib.Core.Option.{none, some}
 use mathlib.Core.List.{List, [], _∷_, _++_}
 use Prim.Native.Nat.{ℕ, zero, suc, _+_, _*_, _-_, _≤_, _<_, min}
 use native.Mathlib.Omega.{arith}
@@ -9,9 +9,9 @@ use native.Mathlib.Nat.{not-suc-le-zero}
 use native.Mathlib.Numerals.{add-one}
 use borrow.Author.Tests.{lt-ltb, le-ltb, le-leb, lt-leb, eq-eqb, ne-eqb, leb-true, leb-false}
 use lib.Dec.{leb, ltb, eqb}
-use lib.ListN.{length, take, getD, set}
-use lib.Seq.{take-suc, take-suc-set, length-take-le}
-use Rattle.model.specs.Res.{pick, both}
+use lib.ListN.{length, take, getD}
+use lib.Seq.{take-suc}
+use Rattle.model.specs.Res.{both}
 use Rattle.model.specs.Bytes.{Bytes}
 use Rattle.lines.specs.Ids.{State, spoilt, closed, grown, stepped, run, last, given, digit}
 

@@ -25,7 +25,7 @@ use Rattle.post.specs.Post.{Indexed, Measured}
 use Rattle.plan.specs.declared.Source.{Source}
 use Rattle.plan.specs.declared.Plan.{Plan}
 use Rattle.plan.specs.Steps.{refusalOf, renewed, there?, bytesIn, lengthIn}
-use Rattle.plan.specs.Sources.{fontOf, Opens, Walked, Kept, PostSized, Found, Planned, afterPost, afterName, afterMetrics}
+use Rattle.plan.specs.Sources.{Opens, Walked, Kept, PostSized, Found, Planned, afterPost, afterName, afterMetrics}
 use Rattle.plan.proofs.Rostered as rostered
 
 -- an absent table's measure, and one that is there
@@ -150,18 +150,17 @@ rewrite-made t r e h =
     six ∙ a .0 ∙ b .0 ∙ c .0
 
 -- all have passed
-pub planned-found : (font : Bytes) (s : Source) (before after : List ℕ) (kept : ℕ) → Opens font s → Walked font s before kept → (p : Plan) (size : Size) (post : ℕ)
-    → PostSized (fontOf font s) (s .n) kept before after size → sizeOf size ≡ ok post
-    → (p .fits ≡ true) × (p .refusal ≡ 0) × Found (fontOf font s) (take kept after) p
-    → Planned (afterName (fontOf font s) (take kept before)) (fontOf font s) (s .n) kept before after p
+pub planned-found : (t : Tables) (n kept : ℕ) (before after : List ℕ) (p : Plan) (size : Size) (post : ℕ)
+    → PostSized t n kept before after size → sizeOf size ≡ ok post → (p .fits ≡ true) × (p .refusal ≡ 0) × Found t (take kept before) p
+    → Planned (afterName t (take kept before)) t n kept before after p
 unfolding afterPost
-planned-found font s before after kept o w p size post z q f =
-    planned-passed lengthIn (optional (λ b. cutPost b (take kept before)) ((fontOf font s) .post)) (afterPost (fontOf font s) (take kept before)) (afterName (fontOf font s) (take kept before))
-    (post-step (fontOf font s) (take kept before)) (fontOf font s) (s .n) kept before after p post (sym q ∙ z .size)
+planned-found t n kept before after p size post z q f =
+    planned-passed lengthIn (optional (λ b. cutPost b (take kept before)) (t .post)) (afterPost t (take kept before)) (afterName t (take kept before))
+    (post-step t (take kept before)) t n kept before after p post (sym q ∙ z .size)
     (record {
       fits = f .0;
       refusal = f .1;
-      found = λ _. subst (λ (l : List ℕ). Found (fontOf font s) l p) (roster-stays font s before after kept o w (z .untouched)) (f .2);
+      found = λ _. f .2;
       untouched = z .untouched;
       index = λ _. z .index (ap isOk q);
     })

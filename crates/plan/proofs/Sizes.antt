@@ -2,13 +2,13 @@
 use mathlib.Core.Path.{_≡_, refl, sym, ap, ap₂, _∙_, subst}
 use mathlib.Core.Bool.{Bool, true}
 use mathlib.Core.Option.{Option, none, some}
-use mathlib.Core.List.{List, [], _∷_}
+use mathlib.Core.List.{List, [], _∷_, map}
 use Prim.Native.Nat.{ℕ, zero, suc, _+_, _*_, _≤_, _<_}
 use native.Mathlib.Omega.{arith}
 use lib.Dec.{ltb, lit<}
 use lib.ListN.{length, getD, take, length-append, length-take, length-drop}
 use Rattle.model.specs.Res.{Res, refuse, ok, pick, each, mapRes, valueOf, _>>=_}
-use Rattle.model.specs.Bytes.{Bytes, put, place}
+use Rattle.model.specs.Bytes.{Bytes, put, sum, place}
 use Rattle.model.specs.Glyf.{Width, short, long, width, entrySize, size, newWidth, newGlyf, newLoca, widthBytes, newHead}
 use Rattle.model.specs.Metrics.{newHmtx, newHhea}
 use Rattle.model.specs.Name.{cutName}
@@ -23,14 +23,16 @@ use Rattle.places.specs.Places.{missing, placeAt, contentAt, optionAt, contents
 use Rattle.face.proofs.Gather.{length-content}
 use Rattle.hmtx.specs.Measures.{metricsOf}
 use Rattle.hmtx.proofs.Step.{Fits, measured-fits}
-use Rattle.glyf.specs.Pieces.{pieces, Readable, Measured}
+use Rattle.glyf.specs.Pieces.{pieces, lengthAt, Readable}
 use Rattle.glyf.proofs.Pieces.{each-piece-of, length-pieces}
 use Rattle.glyf.proofs.Tables.{width-new, length-newGlyf, length-newLoca}
-use Rattle.glyf.proofs.Walked.{readable-from}
+use Rattle.glyf.proofs.Walked.{readable-from, measured-roster}
+use Rattle.closure.specs.Closes.{evenLength, rawLength}
 use Rattle.plan.specs.declared.Source.{Source}
+use Rattle.plan.specs.declared.Sums.{Sums}
 use Rattle.plan.specs.declared.Plan.{Plan}
-use Rattle.plan.specs.Steps.{renewed, there?, lengthIn, tablesOf, Sized, sizedPlace, sizedBy}
-use Rattle.plan.specs.Sources.{fontOf, Opens, Walked, MetricsPassed, NamePassed, PostPassed, Found}
+use Rattle.plan.specs.Steps.{renewed, there?, lengthIn, tablesOf, Sized, sizedPlace, sizedBy, planOf}
+use Rattle.plan.specs.Sources.{fontOf, Opens, Walked, OutlinesAdded, MetricsPassed, NamePassed, PostPassed, Found}
 use Rattle.plan.proofs.Rostered as rostered
 
 -- a place has the presence and the length of a table that may be there
@@ -103,9 +105,16 @@ pub length-newMaxp : (maxp : Bytes) (n : ℕ) → 6 ≤ length maxp → length (
 length-newMaxp maxp n h = simp length-drop (omega arith)
 
 -- loca's length, as the code adds it up
-pub entries-in : (w : Width) (kept : ℕ) → entrySize w * kept + entrySize w ≡ entrySize w * (kept + 1)
+entries-in : (w : Width) (kept : ℕ) → entrySize w * kept + entrySize w ≡ entrySize w * (kept + 1)
 entries-in short kept = omega arith
 entries-in long kept = omega arith
+
+-- the plan by the new loca's width
+pub planned-by : (t : Places) (kept : ℕ) (z : Sums) (count hmtx name post : ℕ) (wide : Bool) (sized : Places) → wide ≡ ltb 131070 (z .even)
+    → sized ≡ sizedBy t (pick wide (z .raw) (z .even)) hmtx (entrySize (width wide) * kept + entrySize (width wide)) name post
+    → record { fits = true; refusal = 0; count = count; wide = wide; sized = sized } ≡ planOf t kept z count hmtx name post
+unfolding planOf
+planned-by t kept z count hmtx name post wide sized e q = rw (q, entries-in (width wide) kept, e)
 
 -- what every measure found
 module _ (font : Bytes) (s : Source) (scratch : List ℕ) (kept : ℕ) (o : Opens font s) (w : Walked font s scratch kept) where
@@ -125,34 +134,38 @@ module _ (font : Bytes) (s : Source) (scratch : List ℕ) (kept : ℕ) (o : Open
       ap₂ (λ (v : Width) (n : ℕ). pieces v n ((fontOf font s) .loca) ((fontOf font s) .glyf) (take kept scratch)) (o .wide) (o .number)
       ∙ ap (valueOf []) (sym (each-piece-of (fontOf font s) (place (take kept scratch)) (take kept scratch)))
 
-  module _ (count hmtx name post even raw : ℕ) (wide : Bool)
-      (metric : MetricsPassed (fontOf font s) (take kept scratch) count hmtx) (named : NamePassed (fontOf font s) name) (posted : PostPassed (fontOf font s) (take kept scratch) post)
-      (loca glyf : Bytes) (is-loca : loca ≡ (fontOf font s) .loca) (is-glyf : glyf ≡ (fontOf font s) .glyf)
-      (measured : Measured (pieces (width (s .long)) (s .n) loca glyf (take kept scratch)) even raw) (is-wide : wide ≡ ltb 131070 even) where
+  -- what the walk added up over the roster
+  pub added : (even raw : ℕ) → even ≡ evenLength (lengthAt (width (s .long)) (s .n) ((fontOf font s) .loca) ((fontOf font s) .glyf)) (take kept scratch)
+      → raw ≡ rawLength (lengthAt (width (s .long)) (s .n) ((fontOf font s) .loca) ((fontOf font s) .glyf)) (take kept scratch)
+      → OutlinesAdded (fontOf font s) (take kept scratch) (record { even = even; raw = raw })
+  added even raw e f =
+      let m = measured-roster (width (s .long)) (s .n) ((fontOf font s) .loca) ((fontOf font s) .glyf) (take kept scratch) readable in
+      record { is-even = e ∙ m .is-even ∙ ap size pieces-are; is-raw = f ∙ m .is-raw ∙ ap (λ (l : List Bytes). sum (map (λ (b : Bytes). length b) l)) pieces-are }
+
+  module _ (count hmtx name post : ℕ) (z : Sums) (sums : OutlinesAdded (fontOf font s) (take kept scratch) z)
+      (metric : MetricsPassed (fontOf font s) (take kept scratch) count hmtx) (named : NamePassed (fontOf font s) name) (posted : PostPassed (fontOf font s) (take kept scratch) post) where
+    abbrev wide : Bool
+    wide = ltb 131070 (z .even)
+
     fits : Fits ((fontOf font s) .hhea) ((fontOf font s) .hmtx) (take kept scratch) count hmtx
     fits = measured-fits ((fontOf font s) .hhea) ((fontOf font s) .hmtx) (take kept scratch) count hmtx metric (omega (arith, rostered.size font s scratch kept o w, rostered.some font s scratch kept o w))
 
-    sums : Measured outlines even raw
-    sums =
-        subst (λ (l : List Bytes). Measured l even raw)
-        (ap₂ (λ (l g : Bytes). pieces (width (s .long)) (s .n) l g (take kept scratch)) is-loca is-glyf ∙ pieces-are) measured
-
     new-width : width wide ≡ newWidth (size outlines)
-    new-width = width-new outlines wide (is-wide ∙ ap (ltb 131070) (sums .is-even))
+    new-width = width-new outlines wide (ap (ltb 131070) (sums .is-even))
 
     loca-length : entrySize (width wide) * (kept + 1) ≡ length (newLoca (newWidth (size outlines)) 0 outlines)
     loca-length =
         ap (λ (m : ℕ). entrySize (width wide) * (m + 1)) (sym (sym (ap length pieces-are) ∙ length-pieces readable ∙ rostered.size font s scratch kept o w))
         ∙ sym (length-newLoca (width wide) 0 outlines) ∙ ap (λ (v : Width). length (newLoca v 0 outlines)) new-width
 
-    all-fit : Fits-all ((sizedBy (s .tables) (pick wide raw even) hmtx (entrySize (width wide) * (kept + 1)) name post) .places) (tablesOf (renewed (fontOf font s) (take kept scratch)))
+    all-fit : Fits-all ((sizedBy (s .tables) (pick wide (z .raw) (z .even)) hmtx (entrySize (width wide) * (kept + 1)) name post) .places) (tablesOf (renewed (fontOf font s) (take kept scratch)))
     unfolding sizedBy renewed contents
     all-fit = (
       copy 0 (lit< tt),
       (
         copy 1 (lit< tt),
         (
-          made _ _ (sym (length-newGlyf outlines wide even raw sums) ∙ ap (λ (v : Width). length (newGlyf v outlines)) new-width),
+          made _ _ (sym (length-newGlyf outlines wide (z .even) (z .raw) sums) ∙ ap (λ (v : Width). length (newGlyf v outlines)) new-width),
           (
             made _ _ (old 3 (lit< tt) ∙ sym (length-newHead (newWidth (size outlines)) (contentAt font (s .tables) 3) (o .long .head))),
             (
@@ -185,15 +198,19 @@ module _ (font : Bytes) (s : Source) (scratch : List ℕ) (kept : ℕ) (o : Open
         old : (k : ℕ) → k < 11 → (placeAt (s .tables) k) .length ≡ length (contentAt font (s .tables) k)
         old k h = sym (length-content font (s .tables) (o .within) k h)
 
-    sized : Sized (renewed (fontOf font s) (take kept scratch)) (sizedBy (s .tables) (pick wide raw even) hmtx (entrySize (width wide) * (kept + 1)) name post)
+    sized : Sized (renewed (fontOf font s) (take kept scratch)) (sizedBy (s .tables) (pick wide (z .raw) (z .even)) hmtx (entrySize (width wide) * (kept + 1)) name post)
     sized k h =
-        let f = fit-at ((sizedBy (s .tables) (pick wide raw even) hmtx (entrySize (width wide) * (kept + 1)) name post) .places) (tablesOf (renewed (fontOf font s) (take kept scratch))) all-fit k h in
+        let f = fit-at ((sizedBy (s .tables) (pick wide (z .raw) (z .even)) hmtx (entrySize (width wide) * (kept + 1)) name post) .places) (tablesOf (renewed (fontOf font s) (take kept scratch))) all-fit k h in
         (f .present, f .length)
 
-    pub found : (p : Plan) → p .count ≡ count → p .wide ≡ wide → p .sized ≡ sizedBy (s .tables) (pick wide raw even) hmtx (entrySize (width wide) * (kept + 1)) name post → Found (fontOf font s) (take kept scratch) p
-    found p c v z =
-        record {
-          sized = subst (Sized (renewed (fontOf font s) (take kept scratch))) (sym z) sized;
-          counted = c ∙ fits .is-count;
-          width = ap width v ∙ new-width;
-        }
+    pub found : (p : Plan) → p ≡ planOf (s .tables) kept z count hmtx name post → (p .fits ≡ true) × (p .refusal ≡ 0) × Found (fontOf font s) (take kept scratch) p
+    unfolding planOf
+    found p e = (
+      ap (λ (p : Plan). p .fits) e,
+      ap (λ (p : Plan). p .refusal) e,
+      record {
+        sized = subst (Sized (renewed (fontOf font s) (take kept scratch))) (sym (ap (λ (p : Plan). p .sized) e)) sized;
+        counted = ap (λ (p : Plan). p .count) e ∙ fits .is-count;
+        width = ap (λ (p : Plan). width (p .wide)) e ∙ new-width;
+      },
+    )

@@ -19,7 +19,9 @@ use Rattle.places.specs.Places.{contents, Within}
 use Rattle.remapper.specs.State.{numberIn}
 use Rattle.hmtx.specs.Measures.{sizes}
 use Rattle.post.specs.Post.{Indexed}
+use Rattle.glyf.specs.Pieces.{Measured}
 use Rattle.plan.specs.declared.Source.{Source}
+use Rattle.plan.specs.declared.Sums.{Sums}
 use Rattle.plan.specs.declared.Plan.{Plan}
 use Rattle.plan.specs.Steps.{refusalOf, renewed, Sized, lengthIn}
 
@@ -47,6 +49,10 @@ pub record Walked (font : Bytes) (s : Source) (scratch : List ℕ) (kept : ℕ) 
   pub inside : kept ≤ length scratch
   pub numbers : (g : ℕ) → g < s .n → getD scratch (s .n + g) 0 ≡ numberIn (take kept scratch) g
   pub space : 4 * s .n ≤ length scratch
+
+-- and it added up the lengths of a roster's outlines
+abbrev pub OutlinesAdded : Tables → List ℕ → Sums → Type 0
+OutlinesAdded t r sums = Measured (valueOf [] (each (pieceOf t (place r)) r)) (sums .even) (sums .raw)
 
 -- only the scratch's places 2n to 4n may have changed
 pub record Kept (n : ℕ) (before after : List ℕ) : Type 0 where

@@ -3,12 +3,13 @@ use mathlib.Core.Path.{_≡_}
 use mathlib.Core.Bool.{Bool, true, false}
 use mathlib.Core.Option.{Option, none, some}
 use mathlib.Core.List.{List, [], _∷_}
-use Prim.Native.Nat.{ℕ, _<_}
-use lib.Dec.{leb}
+use Prim.Native.Nat.{ℕ, _+_, _*_, _<_}
+use lib.Dec.{leb, ltb}
 use lib.ListN.{length, getD}
 use Rattle.model.specs.Res.{Res, refuse, ok, pick, each, need, valueOf, _>>=_, _>>_}
 use Rattle.model.specs.Bytes.{Bytes, place}
 use Rattle.model.specs.Font.{Tables}
+use Rattle.model.specs.Glyf.{width, entrySize}
 use Rattle.model.specs.Metrics.{metrics}
 use Rattle.model.specs.Name.{cutName}
 use Rattle.model.specs.Post.{cutPost}
@@ -18,6 +19,8 @@ use Rattle.model.specs.Call.{Input, Made}
 use Rattle.places.specs.declared.Place.{Place}
 use Rattle.places.specs.declared.Tables.{Tables as Places}
 use Rattle.places.specs.Places.{placeAt}
+use Rattle.plan.specs.declared.Sums.{Sums}
+use Rattle.plan.specs.declared.Plan.{Plan}
 
 -- what the public call is lent
 abbrev pub lent : Bytes → ℕ → List ℕ → List ℕ → Bytes → Input
@@ -81,4 +84,16 @@ sizedBy t glyf hmtx loca name post =
           ∷ sizedPlace ((placeAt t 9) .present) post
           ∷ sizedPlace ((placeAt t 10) .present) ((placeAt t 10) .length)
           ∷ [];
+    }
+
+-- the plan, once every length is known: "Over 131,070: long loca, entries unpadded"
+unfoldable pub planOf : Places → ℕ → Sums → ℕ → ℕ → ℕ → ℕ → Plan
+planOf t kept sums count hmtx name post =
+    let long = ltb 131070 (sums .even) in
+    record {
+      fits = true;
+      refusal = 0;
+      count = count;
+      wide = long;
+      sized = sizedBy t (pick long (sums .raw) (sums .even)) hmtx (entrySize (width long) * (kept + 1)) name post;
     }

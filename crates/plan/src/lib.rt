@@ -5,7 +5,8 @@ use hmtx::Measured;
 use places::Place;
 use places::Tables;
 ghost use mathlib.Core.Path.{_≡_};
-ghost use mathlib.Core.Bool.{true, false};
+ghost use mathlib.Core.Bool.{false};
+ghost use Prim.Native.Nat.{_≤_};
 ghost use lib.ListN.{take};
 ghost use Rattle.model.specs.Res.{mapRes};
 ghost use Rattle.model.specs.Metrics.{metrics};
@@ -14,14 +15,20 @@ ghost use Rattle.model.specs.Cut.{optional, rewrite};
 ghost use Rattle.answer.specs.Answers.{sizeOf};
 ghost use Rattle.places.specs.Places.{contents, Within};
 ghost use Rattle.hmtx.specs.Measures.{measuredOf, sizes};
-ghost use Rattle.plan.specs.Steps.{lengthIn, sizedPlace, sizedBy};
-ghost use Rattle.plan.specs.Sources.{fontOf, Long, Opens, Walked, PostSized, MetricsPassed, NamePassed, PostPassed, Found, Planned, afterMetrics, afterName};
+ghost use Rattle.plan.specs.Steps.{lengthIn, sizedPlace, sizedBy, planOf};
+ghost use Rattle.plan.specs.Sources.{fontOf, Long, Opens, Walked, OutlinesAdded, PostSized, MetricsPassed, NamePassed, Planned, afterMetrics, afterName};
 
 // What the walk and the measures are lent of a font: the tables' places, whether its loca is long, and document 01's n.
 pub struct Source {
     pub tables: Tables,
     pub long: bool,
     pub n: usize,
+}
+
+// The kept outlines' lengths together, as the walk added them up: odd ones raised by 1, and as they are.
+pub struct Sums {
+    pub even: usize,
+    pub raw: usize,
 }
 
 // What the measures found: whether all pass, or the refusal; the new count of long metrics; whether the new loca is long; the
@@ -136,36 +143,24 @@ fn refused(s: Source, k: u32) -> Plan
 
 // All measures passed: the new loca's width follows from the outlines' lengths, and every length is known.
 fn plan_sizes(
-    font: &[u8],
-    s: Source,
+    t: Tables,
     kept: usize,
-    scratch: &[u16],
+    sums: Sums,
     count: usize,
     hmtx: usize,
     name: usize,
     post: usize,
 ) -> Plan
-    requires { ⌜ Opens (now font) s × Walked (now font) s (now scratch) kept ⌝ }
-    requires { ⌜ MetricsPassed (fontOf (now font) s) (take kept (now scratch)) count hmtx × NamePassed (fontOf (now font) s) name × PostPassed (fontOf (now font) s) (take kept (now scratch)) post ⌝ }
-    ensures { λ r. ⌜ (r .fits ≡ true) × (r .refusal ≡ 0) × Found (fontOf (now (font .entry)) s) (take kept (now (scratch .entry))) r ⌝ }
+    requires { ⌜ kept ≤ 65535 ⌝ }
+    ensures { λ r. ⌜ r ≡ planOf t kept sums count hmtx name post ⌝ }
 {
-    let t = s.tables;
-    let long = s.long;
-    let n = s.n;
-    let g = glyf::measure(
-        face::table(font, t, 6),
-        face::table(font, t, 2),
-        long,
-        n,
-        &scratch[..kept],
-    );
-    if 131070 < g.even {
+    if 131070 < sums.even {
         return Plan {
             fits: true,
             refusal: 0,
             count,
             wide: true,
-            sized: sized_by(t, g.raw, hmtx, 4 * kept + 4, name, post),
+            sized: sized_by(t, sums.raw, hmtx, 4 * kept + 4, name, post),
         };
     }
     Plan {
@@ -173,7 +168,7 @@ fn plan_sizes(
         refusal: 0,
         count,
         wide: false,
-        sized: sized_by(t, g.even, hmtx, 2 * kept + 2, name, post),
+        sized: sized_by(t, sums.even, hmtx, 2 * kept + 2, name, post),
     }
 }
 
@@ -181,19 +176,20 @@ fn plan_post(
     font: &[u8],
     s: Source,
     kept: usize,
+    sums: Sums,
     scratch: &mut [u16],
     count: usize,
     hmtx: usize,
     name: usize,
 ) -> Plan
-    requires { ⌜ Opens (now font) s × Walked (now font) s (now scratch) kept ⌝ }
+    requires { ⌜ Opens (now font) s × Walked (now font) s (now scratch) kept × OutlinesAdded (fontOf (now font) s) (take kept (now scratch)) sums ⌝ }
     requires { ⌜ MetricsPassed (fontOf (now font) s) (take kept (now scratch)) count hmtx × NamePassed (fontOf (now font) s) name ⌝ }
     ensures { λ r. ⌜ Planned (afterName (fontOf (now (font .entry)) s) (take kept (now (scratch .entry)))) (fontOf (now (font .entry)) s) (s .n) kept (now (scratch .entry)) (now (scratch .exit)) r ⌝ }
 {
     let size = post_size(font, s, kept, scratch);
     match size {
         Size::No(k) => refused(s, k),
-        Size::Bytes(post) => plan_sizes(font, s, kept, scratch, count, hmtx, name, post),
+        Size::Bytes(post) => plan_sizes(s.tables, kept, sums, count, hmtx, name, post),
     }
 }
 
@@ -201,29 +197,38 @@ fn plan_name(
     font: &[u8],
     s: Source,
     kept: usize,
+    sums: Sums,
     scratch: &mut [u16],
     count: usize,
     hmtx: usize,
 ) -> Plan
-    requires { ⌜ Opens (now font) s × Walked (now font) s (now scratch) kept ⌝ }
+    requires { ⌜ Opens (now font) s × Walked (now font) s (now scratch) kept × OutlinesAdded (fontOf (now font) s) (take kept (now scratch)) sums ⌝ }
     requires { ⌜ MetricsPassed (fontOf (now font) s) (take kept (now scratch)) count hmtx ⌝ }
     ensures { λ r. ⌜ Planned (afterMetrics (fontOf (now (font .entry)) s) (take kept (now (scratch .entry)))) (fontOf (now (font .entry)) s) (s .n) kept (now (scratch .entry)) (now (scratch .exit)) r ⌝ }
 {
     let size = name_size(font, s.tables);
     match size {
         Size::No(k) => refused(s, k),
-        Size::Bytes(name) => plan_post(font, s, kept, scratch, count, hmtx, name),
+        Size::Bytes(name) => plan_post(font, s, kept, sums, scratch, count, hmtx, name),
     }
 }
 
 // Steps 6 to 8, in this order.
-pub fn measure(font: &[u8], s: Source, kept: usize, scratch: &mut [u16]) -> Plan
-    requires { ⌜ Opens (now font) s × Walked (now font) s (now scratch) kept ⌝ }
+pub fn measure(font: &[u8], s: Source, kept: usize, sums: Sums, scratch: &mut [u16]) -> Plan
+    requires { ⌜ Opens (now font) s × Walked (now font) s (now scratch) kept × OutlinesAdded (fontOf (now font) s) (take kept (now scratch)) sums ⌝ }
     ensures { λ r. ⌜ Planned (rewrite (fontOf (now (font .entry)) s) (take kept (now (scratch .entry)))) (fontOf (now (font .entry)) s) (s .n) kept (now (scratch .entry)) (now (scratch .exit)) r ⌝ }
 {
     let size = metrics_size(font, s, kept, scratch);
     match size {
         Measured::No(k) => refused(s, k),
-        Measured::Sized { count, size: hmtx } => plan_name(font, s, kept, scratch, count, hmtx),
+        Measured::Sized { count, size: hmtx } => plan_name(
+            font,
+            s,
+            kept,
+            sums,
+            scratch,
+            count,
+            hmtx,
+        ),
     }
 }

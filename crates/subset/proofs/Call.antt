@@ -4,7 +4,7 @@ use mathlib.Core.List.{List, _++_}
 use Prim.Native.Nat.{ℕ, _+_, _*_, _-_, _≤_, _<_}
 use lib.ListN.{length, drop}
 use borrow.Author.Tests.{le-leb, lt-leb}
-use Rattle.model.specs.Res.{Res, refuse, ok, each}
+use Rattle.model.specs.Res.{Res, refuse, ok}
 use Rattle.model.specs.Bytes.{Bytes, over}
 use Rattle.model.specs.Font.{Tables, read}
 use Rattle.model.specs.File.{entries, file}

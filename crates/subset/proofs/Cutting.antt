@@ -22,15 +22,17 @@ use Rattle.model.proofs.Res.{map-inv, ok-inj, ok-refuse, bind-inv, need-inv}
 use Rattle.model.proofs.Members.{by}
 use Rattle.answer.specs.declared.Answer.{Answer as Answers}
 use Rattle.answer.specs.declared.Answer.the-variants as case
-use Rattle.remapper.specs.State.{numberIn}
+use Rattle.glyf.specs.Pieces.{lengthAt}
+use Rattle.remapper.specs.State.{Rostered, numberIn}
 use Rattle.closure.specs.declared.Closed.{Closed}
 use Rattle.closure.specs.declared.Closed.the-variants as closed
-use Rattle.closure.specs.Closes.{walkIn, Offsets, closedOf, Closes}
+use Rattle.closure.specs.Closes.{walkIn, Offsets, evenLength, rawLength, closedOf, totals, Closes}
 use Rattle.closure.proofs.Final.{walk-in, glyphs-offsets}
 use Rattle.remapper.proofs.Fills.{roster-left, nothing-left}
 use Rattle.plan.specs.Steps.{fileFrom}
 use Rattle.plan.specs.declared.Source.{Source}
-use Rattle.plan.specs.Sources.{fontOf, Opens, Walked, Kept}
+use Rattle.plan.specs.Sources.{fontOf, Opens, Walked, OutlinesAdded, Kept}
+use Rattle.plan.proofs.Sizes.{added}
 use Rattle.subset.specs.Calls.{Rewrites, Cuts}
 use Rattle.subset.proofs.Call.{made-refused, made-from}
 
@@ -69,21 +71,24 @@ rewrite-roster t r c e =
     let f = bind-inv (optional (λ x. cutPost x r) (t .post)) _ c (d .then) in
     sym (ap (λ (c : CutFont). c .roster) (ok-inj (f .then)))
 
-refused-by : {A : Type 0} (m : Res (List A)) (k : ℕ) → refuse k ≡ mapRes length m → m ≡ refuse k
-refused-by (refuse j) k e = cc
-refused-by (ok a) k e = ok-refuse (sym e)
+refused-by : {A B : Type 0} (f : A → B) (m : Res A) (k : ℕ) → refuse k ≡ mapRes f m → m ≡ refuse k
+refused-by f (refuse j) k e = cc
+refused-by f (ok a) k e = ok-refuse (sym e)
 
--- the walk refused, or the roster stands in the scratch
+-- the walk refused, or the roster stands in the scratch and its outlines' lengths are added up
 module _ (font : Bytes) (s : Source) (ids before after : List ℕ) (o : Opens font s) (space : 4 * s .n ≤ length before) (same : length after ≡ length before)
     (loca glyf : Bytes) (is-loca : loca ≡ (fontOf font s) .loca) (is-glyf : glyf ≡ (fontOf font s) .glyf)
-    (answer : Closed) (v : Closes (walkIn (width (s .long)) (s .n) loca glyf ids) (s .n) before after answer) where
+    (answer : Closed) (v : Closes (lengthAt (width (s .long)) (s .n) loca glyf) (walkIn (width (s .long)) (s .n) loca glyf ids) (s .n) before after answer) where
+  abbrev lengths : ℕ → ℕ
+  lengths = lengthAt (width (s .long)) (s .n) loca glyf
+
   walked : walkIn (width (s .long)) (s .n) loca glyf ids ≡ closure (fontOf font s) ids
   walked = ap₂ (λ (l g : Bytes). walkIn (width (s .long)) (s .n) l g ids) is-loca is-glyf
       ∙ ap₂ (λ (w : Width) (n : ℕ). walkIn w n ((fontOf font s) .loca) ((fontOf font s) .glyf) ids) (o .wide) (o .number) ∙ sym (walk-in (fontOf font s) ids)
 
   pub walk-refused : (k : ℕ) → answer ≡ closed.No k → (d : Bytes) → Cuts (fontOf font s) ids (s .n) before after d d (case.No k)
   walk-refused k e d =
-      let q : closure (fontOf font s) ids ≡ refuse k = refused-by (closure (fontOf font s) ids) k (ap closedOf (sym e) ∙ v .answer ∙ ap (mapRes length) walked) in
+      let q : closure (fontOf font s) ids ≡ refuse k = refused-by (totals lengths) (closure (fontOf font s) ids) k (ap closedOf (sym e) ∙ v .answer ∙ ap (mapRes (totals lengths)) walked) in
       let m = made-refused (fontOf font s) ids k q in
       record {
         answers = sym (ap (last (length d)) m);
@@ -93,24 +98,43 @@ module _ (font : Bytes) (s : Source) (ids before after : List ℕ) (o : Opens fo
         roster = λ w f. ok-refuse (sym f ∙ m);
       }
 
-  pub walk-closes : (kept : ℕ) → answer ≡ closed.Kept kept → closure (fontOf font s) ids ≡ ok (take kept after)
-  walk-closes kept e =
-      let i = map-inv length (closure (fontOf font s) ids) kept (sym (ap closedOf (sym e) ∙ v .answer ∙ ap (mapRes length) walked)) in
-      let ro = v .scratch (i .0) (walked ∙ i .1) in
-      i .1 ∙ ap ok (sym (ap (λ (k : ℕ). take k after) (sym (i .2)) ∙ ro .ids))
+  module _ (kept even raw : ℕ) (e : answer ≡ closed.Kept kept even raw) where
+    -- the roster that the walk gives, and its sums
+    whole : (r : List ℕ) × (closure (fontOf font s) ids ≡ ok r) × (totals lengths r ≡ (kept, even, raw))
+    whole = map-inv (totals lengths) (closure (fontOf font s) ids) (kept, even, raw) (sym (ap closedOf (sym e) ∙ v .answer ∙ ap (mapRes (totals lengths)) walked))
 
-  pub walk-kept : (kept : ℕ) → answer ≡ closed.Kept kept → Walked font s after kept
-  walk-kept kept e =
-      let i = map-inv length (closure (fontOf font s) ids) kept (sym (ap closedOf (sym e) ∙ v .answer ∙ ap (mapRes length) walked)) in
-      let ro = v .scratch (i .0) (walked ∙ i .1) in
-      let is : take kept after ≡ i .0 = ap (λ (k : ℕ). take k after) (sym (i .2)) ∙ ro .ids in
-      record {
-        ids = ids;
-        closes = walk-closes kept e;
-        inside = omega (arith, i .2, ap length (ro .ids), length-take (length (i .0)) after);
-        numbers = λ g h. ro .numbers g h ∙ ap (λ (r : List ℕ). numberIn r g) (sym is);
-        space = omega (arith, same);
-      }
+    counted : length (whole .0) ≡ kept
+    counted = ap (λ (z : ℕ × ℕ × ℕ). z .0) (whole .2)
+
+    stands : Rostered (s .n) after (whole .0)
+    stands = v .scratch (whole .0) (walked ∙ whole .1)
+
+    is-roster : take kept after ≡ whole .0
+    is-roster = ap (λ (k : ℕ). take k after) (sym counted) ∙ stands .ids
+
+    pub walk-closes : closure (fontOf font s) ids ≡ ok (take kept after)
+    walk-closes = whole .1 ∙ ap ok (sym is-roster)
+
+    pub walk-kept : Walked font s after kept
+    walk-kept =
+        record {
+          ids = ids;
+          closes = walk-closes;
+          inside = omega (arith, counted, ap length (stands .ids), length-take (length (whole .0)) after);
+          numbers = λ g h. stands .numbers g h ∙ ap (λ (r : List ℕ). numberIn r g) (sym is-roster);
+          space = omega (arith, same);
+        }
+
+    pub walk-added : OutlinesAdded (fontOf font s) (take kept after) (record { even = even; raw = raw })
+    walk-added =
+        added font s after kept o walk-kept even raw
+        (over-font (evenLength) (ap (λ (z : ℕ × ℕ × ℕ). z .1) (whole .2)))
+        (over-font (rawLength) (ap (λ (z : ℕ × ℕ × ℕ). z .2) (whole .2)))
+      where
+        over-font : (f : (ℕ → ℕ) → List ℕ → ℕ) {x : ℕ} → f lengths (whole .0) ≡ x
+            → x ≡ f (lengthAt (width (s .long)) (s .n) ((fontOf font s) .loca) ((fontOf font s) .glyf)) (take kept after)
+        over-font f q =
+            sym q ∙ ap (f lengths) (sym is-roster) ∙ ap₂ (λ (l g : Bytes). f (lengthAt (width (s .long)) (s .n) l g) (take kept after)) is-loca is-glyf
 
 -- what the roster's rest gives, as the whole
 pub from-walk : (t : Tables) (n : ℕ) (ids : List ℕ) (kept : ℕ) (before middle after : List ℕ) (d e : Bytes) (a : Answers) → closure t ids ≡ ok (take kept middle) → kept ≤ length middle → take kept after ≡ take kept middle

@@ -4,12 +4,13 @@ use answer::Answer;
 use closure::Closed;
 use places::Tables;
 use plan::Source;
+use plan::Sums;
 ghost use mathlib.Core.Path.{_≡_};
 ghost use Prim.Native.Nat.{_*_, _≤_};
 ghost use lib.ListN.{length, take};
 ghost use Rattle.model.specs.Call.{Promise};
 ghost use Rattle.answer.specs.Answers.{answerOf};
-ghost use Rattle.plan.specs.Sources.{fontOf, Opens, Walked};
+ghost use Rattle.plan.specs.Sources.{fontOf, Opens, Walked, OutlinesAdded};
 ghost use Rattle.subset.specs.Calls.{lent, Narrow, Rewrites, Cuts};
 
 // Whether every length fits 32 bits. If one doesn't, the file is too long; if all do, the layout's sums stay small.
@@ -28,11 +29,18 @@ fn narrow(sized: Tables) -> bool
 }
 
 // Steps 6 to 10, once the roster stands in the scratch.
-fn rewrite(font: &[u8], s: Source, kept: usize, scratch: &mut [u16], out: &mut [u8]) -> Answer
-    requires { ⌜ Opens (now font) s × Walked (now font) s (now scratch) kept ⌝ }
+fn rewrite(
+    font: &[u8],
+    s: Source,
+    kept: usize,
+    sums: Sums,
+    scratch: &mut [u16],
+    out: &mut [u8],
+) -> Answer
+    requires { ⌜ Opens (now font) s × Walked (now font) s (now scratch) kept × OutlinesAdded (fontOf (now font) s) (take kept (now scratch)) sums ⌝ }
     ensures { λ r. ⌜ Rewrites (fontOf (now (font .entry)) s) (take kept (now (scratch .entry))) (s .n) (now (scratch .entry)) (now (scratch .exit)) (now (out .entry)) (now (out .exit)) r ⌝ }
 {
-    let p = plan::measure(font, s, kept, scratch);
+    let p = plan::measure(font, s, kept, sums, scratch);
     if !p.fits {
         return Answer::No(p.refusal);
     }
@@ -69,7 +77,14 @@ fn cut(font: &[u8], s: Source, ids: &[u16], scratch: &mut [u16], out: &mut [u8])
     );
     match c {
         Closed::No(k) => Answer::No(k),
-        Closed::Kept(kept) => rewrite(font, s, kept, scratch, out),
+        Closed::Kept { kept, even, raw } => rewrite(
+            font,
+            s,
+            kept,
+            Sums { even, raw },
+            scratch,
+            out,
+        ),
     }
 }
 

@@ -10,7 +10,7 @@ use native.Mathlib.Decide.{decLt}
 use native.Mathlib.Numerals.{add-one}
 use lib.ListN.{length, getD, take}
 use Rattle.model.specs.Res.{Res, refuse, ok, pick, each, mapRes, isOk, valueOf, _>>=_}
-use Rattle.model.specs.Bytes.{Bytes, member, place}
+use Rattle.model.specs.Bytes.{Bytes, put, over, member, place}
 use Rattle.model.specs.Font.{Tables}
 use Rattle.model.specs.Glyf.{Width, long, width, widthOf, entrySize, size, newWidth, newGlyf, newLoca, newHead}
 use Rattle.model.specs.Metrics.{Metric, metrics, newCount, newHmtx, newHhea}
@@ -21,7 +21,7 @@ use Rattle.model.proofs.Res.{true-false}
 use Rattle.places.specs.Places.{placeAt, contentAt, optionAt, contents}
 use Rattle.hmtx.specs.Measures.{sizes, metricsOf}
 use Rattle.hmtx.proofs.Step.{Fits as MetricsFit, measured-fits}
-use Rattle.glyf.specs.Pieces.{pieces, Readable, Numbered, GlyfRoom, LocaRoom}
+use Rattle.glyf.specs.Pieces.{pieces, Readable, Numbered, bothTables, TablesRoom}
 use Rattle.glyf.proofs.Pieces.{each-piece-of, value-of, length-pieces}
 use Rattle.glyf.proofs.Tables.{length-newLoca}
 use Rattle.glyf.proofs.Walked.{readable-from, numbered-from}
@@ -32,7 +32,7 @@ use Rattle.plan.specs.declared.Plan.{Plan}
 use Rattle.plan.specs.Steps.{renewed, tablesOf, there?, bytesIn}
 use Rattle.plan.specs.Sources.{fontOf}
 use Rattle.plan.proofs.Rostered as rostered
-use Rattle.tables.specs.Writing.{newBody, Ran, Fits}
+use Rattle.tables.specs.Writing.{newBody, Ran, Fits, OutlinesFit}
 use Rattle.tables.proofs.Standing.{body-is}
 use Rattle.tables.proofs.Lengths.{offsets-fit, length-newHead, length-newHhea, length-newMaxp}
 
@@ -217,31 +217,32 @@ module _ {font : Bytes} {s : Source} {scratch : List ℕ} {kept : ℕ} {p : Plan
       (numbered-from (fontOf font s) (w .walked .ids) (take kept scratch) (w .walked .closes) scratch (ap (λ (k : ℕ). take k scratch) roster-size)
       (omega (arith, w .opens .number, w .walked .space)) number))
 
-  pub glyf-body : newGlyf (width (p .wide)) (pieces (width (s .long)) (s .n) (contentAt font (s .tables) 6) (contentAt font (s .tables) 2) (take kept scratch)) ≡ newBody font s scratch kept 2
+  glyf-body : newGlyf (width (p .wide)) (pieces (width (s .long)) (s .n) (contentAt font (s .tables) 6) (contentAt font (s .tables) 2) (take kept scratch)) ≡ newBody font s scratch kept 2
   unfolding newBody bodyOf renewed
   glyf-body = ap₂ (λ (v : Width) (bs : List Bytes). newGlyf v bs) (w .found .width) pieces-same
 
-  pub glyf-room : (out : Bytes) → length (newBody font s scratch kept 2) ≤ length out
-      → GlyfRoom (width (s .long)) (width (p .wide)) (s .n) (contentAt font (s .tables) 6) (contentAt font (s .tables) 2) scratch kept out
-  glyf-room out h =
-      let e = ap length glyf-body in
-      record { numbered = numbered; room = omega arith }
-
-  pub loca-body : newLoca (width (p .wide)) 0 (pieces (width (s .long)) (s .n) (contentAt font (s .tables) 6) (contentAt font (s .tables) 2) (take kept scratch)) ≡ newBody font s scratch kept 6
+  loca-body : newLoca (width (p .wide)) 0 (pieces (width (s .long)) (s .n) (contentAt font (s .tables) 6) (contentAt font (s .tables) 2) (take kept scratch)) ≡ newBody font s scratch kept 6
   unfolding newBody bodyOf renewed
   loca-body = ap₂ (λ (v : Width) (bs : List Bytes). newLoca v 0 bs) (w .found .width) pieces-same
 
-  pub loca-room : (out : Bytes) → length (newBody font s scratch kept 6) ≤ length out → length (newBody font s scratch kept 2) ≤ 4294967295
-      → LocaRoom (width (s .long)) (width (p .wide)) (s .n) (contentAt font (s .tables) 6) (contentAt font (s .tables) 2) (take kept scratch) out
-  loca-room out h z =
+  pub both-bodies : (distance : ℕ) (out : Bytes)
+      → bothTables (width (p .wide)) (pieces (width (s .long)) (s .n) (contentAt font (s .tables) 6) (contentAt font (s .tables) 2) (take kept scratch)) distance out
+      ≡ put (over (newBody font s scratch kept 2) out) distance (newBody font s scratch kept 6)
+  unfolding bothTables
+  both-bodies distance out = ap₂ (λ (g l : Bytes). put (over g out) distance l) glyf-body loca-body
+
+  pub tables-room : (distance : ℕ) (out : Bytes) → OutlinesFit font s scratch kept p out distance
+      → TablesRoom (width (s .long)) (width (p .wide)) (s .n) (contentAt font (s .tables) 6) (contentAt font (s .tables) 2) scratch kept out distance
+  tables-room distance out f =
       let bs = pieces (width (s .long)) (s .n) (contentAt font (s .tables) 6) (contentAt font (s .tables) 2) (take kept scratch) in
-      let e = ap length loca-body in
-      let n = length-newLoca (width (p .wide)) 0 bs ∙ ap (λ (k : ℕ). entrySize (width (p .wide)) * (k + 1)) (length-pieces readable) in
+      let l = ap length loca-body in
+      let n = length-newLoca (width (p .wide)) 0 bs ∙ ap (λ (k : ℕ). entrySize (width (p .wide)) * (k + 1)) (length-pieces readable ∙ roster-size) in
       let g = ap length glyf-body in
       record {
-        readable = readable;
-        offsets = offsets-fit (width (p .wide)) bs (w .found .width ∙ ap (λ (x : List Bytes). newWidth (size x)) (sym pieces-same)) (omega arith);
-        room = omega arith;
+        numbered = numbered;
+        offsets = offsets-fit (width (p .wide)) bs (w .found .width ∙ ap (λ (x : List Bytes). newWidth (size x)) (sym pieces-same)) (omega (arith, f .offsets));
+        behind = omega (arith, f .behind);
+        room = omega (arith, f .room);
       }
 
   -- maxp

@@ -1,3 +1,4 @@
 pub mod Lengths
+pub mod Order
 pub mod Standing
 pub mod Bodies

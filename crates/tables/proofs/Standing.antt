@@ -1,26 +1,26 @@
 -- The layout's places are those of the new tables: each is marked if it is there, is as long as its bytes, and has its room in the output.
-use mathlib.Core.Path.{_≡_, refl, sym, ap, _∙_, subst}
+use mathlib.Core.Path.{_≡_, refl, sym, ap, ap₂, _∙_, subst}
 use mathlib.Core.Bool.{true, false}
 use mathlib.Core.Option.{Option, none, some}
 use mathlib.Core.List.{List, []}
 use Prim.Native.Nat.{ℕ, _+_, _-_, _%_, _≤_, _<_}
 use native.Mathlib.Omega.{arith}
-use native.Mathlib.Numerals.{add-one}
 use lib.Dec.{lit<}
-use lib.ListN.{length, getD, take, drop, replicate, length-take, length-drop, List·getD-map}
+use lib.ListN.{length, getD, take, drop, replicate, length-append, length-take, length-drop, List·getD-map}
 use borrow.Rule.Slice.PartMut.{putMid}
-use Rattle.model.specs.Bytes.{Bytes, place, put, over}
+use Rattle.model.specs.Bytes.{Bytes, place, put, over, pad4}
 use Rattle.model.specs.Res.{each, valueOf}
 use Rattle.model.specs.Font.{Tables}
 use Rattle.model.specs.Glyf.{size, newWidth}
 use Rattle.model.specs.Cut.{pieceOf}
 use Rattle.model.specs.File.{entries, file}
-use Rattle.model.proofs.Bytes.{length-put}
+use Rattle.model.proofs.Bytes.{length-put, length-over}
+use Rattle.model.proofs.Puts.{put-swap}
 use Rattle.model.proofs.Parts.{put-back}
 use Rattle.places.specs.Places.{placeAt}
 use Rattle.construct.specs.declared.Layout.{Layout}
 use Rattle.construct.specs.Construct.{raised, laidOut, laid, contentOf, bodyOf, marks, Marked, Sized, Placed, Ready, Written, writeAt, writeTo}
-use Rattle.construct.proofs.Files.{raised-room}
+use Rattle.construct.proofs.Files.{length-pad4, raised-room}
 use Rattle.construct.proofs.Placing.{layout-placed, layout-length, layout-present}
 use Rattle.construct.proofs.Readiness.{pad-room, place-room}
 use Rattle.construct.proofs.Written.{write-there, written-to, written-ready, length-cut, finish-cut}
@@ -28,8 +28,10 @@ use Rattle.plan.specs.declared.Source.{Source}
 use Rattle.plan.specs.declared.Plan.{Plan}
 use Rattle.plan.specs.Steps.{renewed, tablesOf, there?, bytesIn}
 use Rattle.plan.specs.Sources.{fontOf, Found}
-use Rattle.tables.specs.Writing.{newBody, Writes, Fits}
+use Rattle.glyf.proofs.Puts.{put-lent}
+use Rattle.tables.specs.Writing.{newBody, othersTo, Writes, Fits, OutlinesFit}
 use Rattle.tables.proofs.Lengths.{length-newHead}
+use Rattle.tables.proofs.Order.{ends-before, in-tag-order}
 
 -- the tables by number, as the measures and as the layout have them
 same-content : (o : Option Bytes) → contentOf o ≡ bytesIn o
@@ -115,11 +117,58 @@ module _ {new : Layout} {k : ℕ} {body out : Bytes} (s : Spot new k body out) w
       write-there new k body out (putMid at (length out - at) out y) o (s .there) (omega arith) (part-back y e)
       (f ∙ ap (λ (n : ℕ). put (putMid at (length out - at) out y) (at + n) (replicate ((4 - n % 4) % 4) 0)) (sym (s .size)))
 
--- one table more
-pub write-more : (new : Layout) (body : ℕ → Bytes) (k : ℕ) (out : Bytes) {a b : Bytes} → a ≡ writeTo new body out k → b ≡ writeAt new k (body k) a
-    → b ≡ writeTo new body out (k + 1)
-unfolding writeTo
-write-more new body k out e f = rw add-one (f ∙ ap (writeAt new k (body k)) e)
+-- glyf and loca have their places, loca's behind glyf's zeros: what their writer leaves of the part that starts with glyf, and then the zeros
+module _ {new : Layout} {g l out : Bytes} (sg : Spot new 2 g out) (sl : Spot new 6 l out)
+    (apart : (placeAt (new .tables) 2) .offset + raised ((placeAt (new .tables) 2) .length) ≤ (placeAt (new .tables) 6) .offset) where
+  abbrev at : ℕ
+  at = (placeAt (new .tables) 2) .offset
+
+  abbrev to : ℕ
+  to = (placeAt (new .tables) 6) .offset
+
+  behind-glyf : at + length (pad4 g) ≤ to
+  behind-glyf = omega (arith, apart, length-pad4 g ∙ ap raised (sg .size))
+
+  length-glyf : length (writeAt new 2 g out) ≡ length out
+  unfolding writeAt
+  length-glyf = rw (sg .there) (length-put out at (pad4 g) (omega (arith, behind-glyf, sl .inside)))
+
+  module _ (y : Bytes) (e : y ≡ put (over g (lentPart new 2 out)) (to - at) l) where
+    both-back : putMid at (length out - at) out y ≡ put (put out at g) to l
+    both-back =
+        let whole : length (over g (lentPart new 2 out)) ≡ length out - at = length-over g (lentPart new 2 out) (lent-room sg) ∙ simp (length-take, length-drop) (omega arith) in
+        ap (putMid at (length out - at) out) e
+        ∙ put-lent at (length out - at) (to - at) out (over g (lentPart new 2 out)) l (omega (arith, sg .inside)) (omega (arith, behind-glyf, sl .inside))
+        ∙ ap₂ (λ (z : Bytes) (m : ℕ). put z m l) (part-back sg (over g (lentPart new 2 out)) refl) (omega (arith, behind-glyf))
+
+    both-length : length (putMid at (length out - at) out y) ≡ length out
+    both-length =
+        let h = length-put out at g (sg .inside) in
+        ap length both-back ∙ length-put (put out at g) to l (omega (arith, sl .inside)) ∙ h
+
+    pub glyf-pad-fits : at + raised ((placeAt (new .tables) 2) .length) ≤ length (putMid at (length out - at) out y)
+    glyf-pad-fits = omega (arith, both-length, sg .padded)
+
+    module _ (o : Bytes) (f : o ≡ put (putMid at (length out - at) out y) (at + (placeAt (new .tables) 2) .length) (replicate ((4 - (placeAt (new .tables) 2) .length % 4) % 4) 0)) where
+      glyf-padded : o ≡ put (writeAt new 2 g out) to l
+      glyf-padded =
+          let zeros : Bytes = replicate ((4 - length g % 4) % 4) 0 in
+          let h = length-put out at g (sg .inside) in
+          f ∙ ap (λ (n : ℕ). put (putMid at (length out - at) out y) (at + n) (replicate ((4 - n % 4) % 4) 0)) (sym (sg .size))
+          ∙ ap (λ (z : Bytes). put z (at + length g) zeros) both-back
+          ∙ sym (put-swap (put out at g) (at + length g) zeros to l (omega (arith, behind-glyf, length-append g zeros)) (omega (arith, sl .inside)))
+          ∙ ap (λ (z : Bytes). put z to l) (write-there new 2 g out (put out at g) (put (put out at g) (at + length g) zeros) (sg .there) (omega (arith, sg .inside)) refl refl)
+
+      pub loca-pad-fits : to + raised ((placeAt (new .tables) 6) .length) ≤ length o
+      loca-pad-fits =
+          let h = length-put (writeAt new 2 g out) to l (omega (arith, length-glyf, sl .inside)) in
+          omega (arith, sl .padded, length-glyf, ap length glyf-padded)
+
+      pub both-written : (x : Bytes) → x ≡ put o (to + (placeAt (new .tables) 6) .length) (replicate ((4 - (placeAt (new .tables) 6) .length % 4) % 4) 0)
+          → x ≡ writeAt new 6 l (writeAt new 2 g out)
+      both-written x q =
+          write-there new 6 l (writeAt new 2 g out) o x (sl .there) (omega (arith, length-glyf, sl .inside)) glyf-padded
+          (q ∙ ap (λ (n : ℕ). put o (to + n) (replicate ((4 - n % 4) % 4) 0)) (sym (sl .size)))
 
 module _ {font : Bytes} {s : Source} {scratch : List ℕ} {kept : ℕ} {p : Plan} {new : Layout} (w : Writes font s scratch kept p new) where
   placed : Placed new
@@ -158,8 +207,37 @@ module _ {font : Bytes} {s : Source} {scratch : List ℕ} {kept : ℕ} {p : Plan
           ran = w .ran;
           there = sym (mark-is (renewed (fontOf font s) (take kept scratch)) k) ∙ sym (marked k h) ∙ there;
           room = lent-room (spot k h there);
-          offsets = offsets;
         }
+
+    -- glyf and loca are always there
+    pub glyf-spot : Spot new 2 (newBody font s scratch kept 2) out
+    unfolding marks
+    glyf-spot = spot 2 (lit< tt) (marked 2 (lit< tt))
+
+    pub loca-spot : Spot new 6 (newBody font s scratch kept 6) out
+    unfolding marks
+    loca-spot = spot 6 (lit< tt) (marked 6 (lit< tt))
+
+    pub glyf-loca : (placeAt (new .tables) 2) .offset + raised ((placeAt (new .tables) 2) .length) ≤ (placeAt (new .tables) 6) .offset
+    glyf-loca = ends-before new placed (bodyOf (renewed (fontOf font s) (take kept scratch))) sized 2 6 (lit< tt) (lit< tt) (glyf-spot .there)
+
+    pub outlines-fit : OutlinesFit font s scratch kept p (lentPart new 2 out) ((placeAt (new .tables) 6) .offset - (placeAt (new .tables) 2) .offset)
+    outlines-fit =
+        let lent : length (lentPart new 2 out) ≡ length out - (placeAt (new .tables) 2) .offset = simp (length-take, length-drop) (omega arith) in
+        let r = raised-room ((placeAt (new .tables) 2) .length) in
+        record {
+          ran = w .ran;
+          offsets = offsets;
+          behind = omega (arith, glyf-loca, glyf-spot .size);
+          room = omega (arith, glyf-loca, loca-spot .inside);
+        }
+
+    -- then the others
+    pub others-written : (o₁ o₂ : Bytes) → o₁ ≡ writeAt new 6 (newBody font s scratch kept 6) (writeAt new 2 (newBody font s scratch kept 2) out)
+        → o₂ ≡ othersTo new (newBody font s scratch kept) o₁ 11 → o₂ ≡ writeTo new (newBody font s scratch kept) out 11
+    others-written o₁ o₂ e f =
+        f ∙ ap (λ (z : Bytes). othersTo new (newBody font s scratch kept) z 11) e
+        ∙ in-tag-order new placed (newBody font s scratch kept) (unfold newBody in sized) out room
 
     module _ (o : Bytes) (e : o ≡ writeTo new (newBody font s scratch kept) out 11) where
       all-written : Written new (bodyOf (renewed (fontOf font s) (take kept scratch))) out o 11

@@ -1,26 +1,34 @@
 // The new tables, written (the second half of what `process` does in the crate's lib.rs). Everything is measured and the layout is
-// known, so nothing is refused here: each table is lent its own part of the output and zero-padded, in tag order, and the
+// known, so nothing is refused here: each table is lent its own part of the output and zero-padded, glyf and loca first, and the
 // directory and head's adjustment are written last.
 use construct::Layout;
 use plan::Plan;
 use plan::Source;
 ghost use mathlib.Core.Path.{_≡_};
-ghost use Prim.Native.Nat.{_≤_, _<_};
+ghost use Prim.Native.Nat.{_≤_};
 ghost use lib.ListN.{length, take};
-ghost use Rattle.model.specs.Bytes.{over};
+ghost use Rattle.model.specs.Bytes.{put, over};
 ghost use Rattle.model.specs.File.{entries, file};
-ghost use Rattle.construct.specs.Construct.{writeAt, writeTo};
+ghost use Rattle.construct.specs.Construct.{writeAt};
 ghost use Rattle.plan.specs.Steps.{renewed};
 ghost use Rattle.plan.specs.Sources.{fontOf};
-ghost use Rattle.tables.specs.Writing.{newBody, Writes, Fits};
+ghost use Rattle.tables.specs.Writing.{newBody, othersTo, Single, Writes, Fits, OutlinesFit};
 
-// The kept outlines, with new ids.
-fn write_glyf(font: &[u8], s: Source, kept: usize, scratch: &[u16], p: Plan, out: &mut [u8])
-    requires { ⌜ Fits (now font) s (now scratch) kept p 2 (now out) ⌝ }
-    ensures { λ _. ⌜ now (out .exit) ≡ over (newBody (now (font .entry)) s (now (scratch .entry)) kept 2) (now (out .entry)) ⌝ }
+// The kept outlines with new ids, and at a distance where each starts.
+fn write_outlines(
+    font: &[u8],
+    s: Source,
+    kept: usize,
+    scratch: &[u16],
+    p: Plan,
+    out: &mut [u8],
+    distance: usize,
+)
+    requires { ⌜ OutlinesFit (now font) s (now scratch) kept p (now out) distance ⌝ }
+    ensures { λ _. ⌜ now (out .exit) ≡ put (over (newBody (now (font .entry)) s (now (scratch .entry)) kept 2) (now (out .entry))) distance (newBody (now (font .entry)) s (now (scratch .entry)) kept 6) ⌝ }
 {
     let t = s.tables;
-    glyf::write_glyf(
+    glyf::write(
         face::table(font, t, places::LOCA),
         face::table(font, t, places::GLYF),
         s.long,
@@ -29,6 +37,7 @@ fn write_glyf(font: &[u8], s: Source, kept: usize, scratch: &[u16], p: Plan, out
         kept,
         p.wide,
         out,
+        distance,
     );
 }
 
@@ -47,23 +56,6 @@ fn write_hmtx(font: &[u8], s: Source, kept: usize, scratch: &[u16], p: Plan, out
     );
 }
 
-// Where each kept outline starts.
-fn write_loca(font: &[u8], s: Source, kept: usize, scratch: &[u16], p: Plan, out: &mut [u8])
-    requires { ⌜ Fits (now font) s (now scratch) kept p 6 (now out) ⌝ }
-    ensures { λ _. ⌜ now (out .exit) ≡ over (newBody (now (font .entry)) s (now (scratch .entry)) kept 6) (now (out .entry)) ⌝ }
-{
-    let t = s.tables;
-    glyf::write_loca(
-        face::table(font, t, places::LOCA),
-        face::table(font, t, places::GLYF),
-        s.long,
-        s.n,
-        &scratch[..kept],
-        p.wide,
-        out,
-    );
-}
-
 // Table number k, at the start of out. "cvt, fpgm, prep: copied". head's adjustment stays zero until the file's sum is known.
 fn write_table(
     font: &[u8],
@@ -74,17 +66,11 @@ fn write_table(
     k: usize,
     out: &mut [u8],
 )
-    requires { ⌜ (k < 11) × Fits (now font) s (now scratch) kept p k (now out) ⌝ }
+    requires { ⌜ Single k × Fits (now font) s (now scratch) kept p k (now out) ⌝ }
     ensures { λ _. ⌜ now (out .exit) ≡ over (newBody (now (font .entry)) s (now (scratch .entry)) kept k) (now (out .entry)) ⌝ }
 {
-    if k == places::GLYF {
-        return write_glyf(font, s, kept, scratch, p, out);
-    }
     if k == places::HMTX {
         return write_hmtx(font, s, kept, scratch, p, out);
-    }
-    if k == places::LOCA {
-        return write_loca(font, s, kept, scratch, p, out);
     }
     let old = face::table(font, s.tables, k);
     if k == places::HEAD {
@@ -116,7 +102,7 @@ fn put_table(
     k: usize,
     out: &mut [u8],
 )
-    requires { ⌜ (k < 11) × Writes (now font) s (now scratch) kept p new × (new .end ≤ length (now out)) ⌝ }
+    requires { ⌜ Single k × Writes (now font) s (now scratch) kept p new × (new .end ≤ length (now out)) ⌝ }
     ensures { λ _. ⌜ now (out .exit) ≡ writeAt new k (newBody (now (font .entry)) s (now (scratch .entry)) kept k) (now (out .entry)) ⌝ }
 {
     let tables = new.tables;
@@ -128,8 +114,8 @@ fn put_table(
     }
 }
 
-// In tag order.
-fn put_tables(
+// glyf and loca to their own parts of the output, and the zeros behind them.
+fn put_outlines(
     font: &[u8],
     s: Source,
     kept: usize,
@@ -139,11 +125,36 @@ fn put_tables(
     out: &mut [u8],
 )
     requires { ⌜ Writes (now font) s (now scratch) kept p new × (new .end ≤ length (now out)) ⌝ }
-    ensures { λ _. ⌜ now (out .exit) ≡ writeTo new (newBody (now (font .entry)) s (now (scratch .entry)) kept) (now (out .entry)) 11 ⌝ }
+    ensures { λ _. ⌜ now (out .exit) ≡ writeAt new 6 (newBody (now (font .entry)) s (now (scratch .entry)) kept 6) (writeAt new 2 (newBody (now (font .entry)) s (now (scratch .entry)) kept 2) (now (out .entry))) ⌝ }
+{
+    let tables = new.tables;
+    let glyf = tables.places[places::GLYF];
+    let loca = tables.places[places::LOCA];
+    let at = glyf.offset;
+    let to = loca.offset;
+    write_outlines(font, s, kept, scratch, p, &mut out[at..], to - at);
+    construct::pad(out, at, glyf.length);
+    construct::pad(out, to, loca.length);
+}
+
+// The other nine, in tag order.
+fn put_others(
+    font: &[u8],
+    s: Source,
+    kept: usize,
+    scratch: &[u16],
+    p: Plan,
+    new: Layout,
+    out: &mut [u8],
+)
+    requires { ⌜ Writes (now font) s (now scratch) kept p new × (new .end ≤ length (now out)) ⌝ }
+    ensures { λ _. ⌜ now (out .exit) ≡ othersTo new (newBody (now (font .entry)) s (now (scratch .entry)) kept) (now (out .entry)) 11 ⌝ }
 {
     let mut k = 0;
     while k < 11 {
-        put_table(font, s, kept, scratch, p, new, k, out);
+        if k != places::GLYF && k != places::LOCA {
+            put_table(font, s, kept, scratch, p, new, k, out);
+        }
         k += 1;
     }
 }
@@ -161,6 +172,7 @@ pub fn write_file(
     requires { ⌜ Writes (now font) s (now scratch) kept p new × (new .end ≤ length (now out)) ⌝ }
     ensures { λ _. ⌜ now (out .exit) ≡ over (file (entries (renewed (fontOf (now (font .entry)) s) (take kept (now (scratch .entry)))))) (now (out .entry)) ⌝ }
 {
-    put_tables(font, s, kept, scratch, p, new, out);
+    put_outlines(font, s, kept, scratch, p, new, out);
+    put_others(font, s, kept, scratch, p, new, out);
     construct::finish(out, new);
 }

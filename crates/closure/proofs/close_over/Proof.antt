@@ -4,6 +4,7 @@ use Prim.Native.Nat.{_+_, _*_}
 use lib.ListN.{length}
 use borrow.Author.Needs.{needs}
 use Rattle.model.specs.Glyf.{width}
+use Rattle.glyf.specs.Pieces.{lengthAt}
 use Rattle.closure.specs.Closes.{partsIn, walkIn}
 use Rattle.closure.specs.Turns.{Numbered}
 use Rattle.closure.proofs.Final.{alike-in, closes-none, started-walks, closes-no, numbered-all, closes-run}
@@ -15,8 +16,9 @@ unfolding walkIn
 returns c =
     let a = c .before .before .before .before .before .args in
     let parts = partsIn (width (a .long)) (a .n) (a .loca .now) (a .glyf .now) in
+    let lengths = lengthAt (width (a .long)) (a .n) (a .loca .now) (a .glyf .now) in
     let alike = alike-in (width (a .long)) (a .n) (a .loca .now) (a .glyf .now) (a .ids .now) in
-    closes-none parts (2 + length (a .ids .now) + a .n * length (a .glyf .now)) (a .n) (a .ids .now) alike (c .if1 .taken) (a .scratch .now)
+    closes-none parts lengths (2 + length (a .ids .now) + a .n * length (a .glyf .now)) (a .n) (a .ids .now) alike (c .if1 .taken) (a .scratch .now)
 
 start-requires : tie.Need-start-requires
 start-requires c κs = search needs
@@ -56,8 +58,9 @@ returns-2 c =
     let of = c .before .before .before .before .before .numbered .given in
     let done = subst (Numbered (a .n) (a .ids .now) (s .last .0) (t .last .1 .0)) (of .1) (t .ensures) in
     let parts = partsIn (width (a .long)) (a .n) (a .loca .now) (a .glyf .now) in
+    let lengths = lengthAt (width (a .long)) (a .n) (a .loca .now) (a .glyf .now) in
     let alike = alike-in (width (a .long)) (a .n) (a .loca .now) (a .glyf .now) (a .ids .now) in
-    closes-run parts (2 + length (a .ids .now) + a .n * length (a .glyf .now)) (a .n) (a .ids .now) alike (c .before .before .before .before .before .before .before .before .before .before .before .before .before .before .before .if1 .left) (a .scratch .now) (c .before .before .before .before .before .before .before .before .before .before .before .before .before .before .before .before .before .before .before .before .pre .1) (s .last .0) (s .ensures) (t .last .1 .0)
+    closes-run parts lengths (2 + length (a .ids .now) + a .n * length (a .glyf .now)) (a .n) (a .ids .now) alike (c .before .before .before .before .before .before .before .before .before .before .before .before .before .before .before .if1 .left) (a .scratch .now) (c .before .before .before .before .before .before .before .before .before .before .before .before .before .before .before .before .before .before .before .before .pre .1) (s .last .0) (s .ensures) (t .last .1 .0)
     (of .0 .0) (r .last .1 .1 .1 .0) (r .result) done (r .ensures)
 
 same-length-2 : tie.Need-same-length-2
@@ -72,8 +75,9 @@ returns-3 c =
     let no = c .before .numbered2 .given in
     let refusal = subst (Numbered (a .n) (a .ids .now) (s .last .0) (t .last .1 .0)) (no .1) (t .ensures) in
     let parts = partsIn (width (a .long)) (a .n) (a .loca .now) (a .glyf .now) in
+    let lengths = lengthAt (width (a .long)) (a .n) (a .loca .now) (a .glyf .now) in
     let alike = alike-in (width (a .long)) (a .n) (a .loca .now) (a .glyf .now) (a .ids .now) in
-    closes-no parts (2 + length (a .ids .now) + a .n * length (a .glyf .now)) (a .n) (a .ids .now) alike (c .before .before .before .before .before .before .before .before .before .before .before .if1 .left) (a .scratch .now) (c .before .before .before .before .before .before .before .before .before .before .before .before .before .before .before .before .pre .1) (s .last .0) (s .ensures) (t .last .1 .0)
+    closes-no parts lengths (2 + length (a .ids .now) + a .n * length (a .glyf .now)) (a .n) (a .ids .now) alike (c .before .before .before .before .before .before .before .before .before .before .before .if1 .left) (a .scratch .now) (c .before .before .before .before .before .before .before .before .before .before .before .before .before .before .before .before .pre .1) (s .last .0) (s .ensures) (t .last .1 .0)
     (no .0 .0) refusal
 
 pub close-over-spec : {M : Type 1} → statement M

@@ -1,9 +1,11 @@
 -- The ids read so far were offered; each record moves the place on, and stays in the outline.
-use mathlib.Core.Path.{sym, _∙_}
+use mathlib.Core.Path.{sym, ap, _∙_}
+use mathlib.Core.Bool.{true, false}
 use Prim.Native.Nat.{_-_}
 use native.Mathlib.Omega.{arith}
 use lib.ListN.{length}
 use borrow.Author.Needs.{needs}
+use Rattle.outline.specs.declared.Component.the-variants.{Last}
 use Rattle.outline.proofs.Records.{taken-more, taken-last}
 use Rattle.closure.proofs.Reading.{Reading, reading-start, reading-more, reading-last, reading-bad}
 use Rattle.closure.proofs.offer_components.Statement.{statement}
@@ -56,18 +58,31 @@ same-length c = search needs
 
 returns : tie.Need-returns Inv-loop μ-loop
 returns c =
-    let a = c .before .before .before .before .before .before .before .before .before .before .before .args in
-    let l = c .before .before .before .before .before .before .before .before .loop in
-    reading-last (a .b .now) (a .s .now) (a .n) (l .s) (l .at) (l .inv) (c .before .before .offer2 .last .0) (c .before .before .before .before .before .c2 .given .0 .0) (c .before .before .before .before .before .c2 .given .0 .1 .0) (c .before .before .before .before .before .c2 .given .0 .1 .1 .0) (sym (c .before .before .before .before .before .before .before .component-at .ensures) ∙ c .before .before .before .before .before .c2 .given .1) (c .before .before .offer2 .ensures)
-
-enum-told : tie.Need-enum-told Inv-loop μ-loop
-enum-told c = search needs
+    let a = c .before .before .before .before .before .before .before .before .before .before .before .before .args in
+    let l = c .before .before .before .before .before .before .before .before .before .loop in
+    let last = c .before .before .before .before .before .before .c2 .given in
+    reading-last (a .b .now) (a .s .now) (a .n) (l .s) (l .at) (l .inv) (c .before .before .before .offer2 .last .0) (last .0 .0) (last .0 .1 .0) true
+    (sym (c .before .before .before .before .before .before .before .before .component-at .ensures) ∙ last .1 ∙ ap (Last (last .0 .0) (last .0 .1 .0)) (c .if1 .taken)) (c .before .before .before .offer2 .ensures)
 
 same-length-2 : tie.Need-same-length-2 Inv-loop μ-loop
 same-length-2 c = search needs
 
 returns-2 : tie.Need-returns-2 Inv-loop μ-loop
 returns-2 c =
+    let a = c .before .before .before .before .before .before .before .before .before .before .before .before .args in
+    let l = c .before .before .before .before .before .before .before .before .before .loop in
+    let last = c .before .before .before .before .before .before .c2 .given in
+    reading-last (a .b .now) (a .s .now) (a .n) (l .s) (l .at) (l .inv) (c .before .before .before .offer2 .last .0) (last .0 .0) (last .0 .1 .0) false
+    (sym (c .before .before .before .before .before .before .before .before .component-at .ensures) ∙ last .1 ∙ ap (Last (last .0 .0) (last .0 .1 .0)) (c .if1 .left)) (c .before .before .before .offer2 .ensures)
+
+enum-told : tie.Need-enum-told Inv-loop μ-loop
+enum-told c = search needs
+
+same-length-3 : tie.Need-same-length-3 Inv-loop μ-loop
+same-length-3 c = search needs
+
+returns-3 : tie.Need-returns-3 Inv-loop μ-loop
+returns-3 c =
     let a = c .before .before .before .before .before .before .args in
     let l = c .before .before .before .loop in
     reading-bad (a .b .now) (a .s .now) (a .n) (l .s) (l .at) (l .inv) (sym (c .before .before .component-at .ensures) ∙ c .enum-told .given .1)
@@ -88,6 +103,8 @@ offer-components-spec =
     offer-requires-2
     same-length
     returns
-    enum-told
     same-length-2
-    returns-2)
+    returns-2
+    enum-told
+    same-length-3
+    returns-3)

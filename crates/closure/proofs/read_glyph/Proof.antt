@@ -1,12 +1,10 @@
 -- By the glyph's span, which lies in glyf.
 use mathlib.Core.Path.{sym, _∙_}
-use mathlib.Core.Bool.{false}
 use native.Mathlib.Omega.{arith}
 use borrow.Author.Needs.{needs}
 use Rattle.model.specs.Glyf.{width}
-use Rattle.outline.specs.declared.Span.the-variants as span
 use Rattle.outline.proofs.Glyphs.{span-within}
-use Rattle.closure.proofs.Reading.{opened-none, opened-span, offsets-at}
+use Rattle.closure.proofs.Reading.{opened-there, opened-nowhere, offsets-at}
 use Rattle.closure.proofs.read_glyph.Statement.{statement}
 use Rattle.closure.proofs.read_glyph.Tie as tie
 
@@ -49,13 +47,12 @@ returns : tie.Need-returns
 returns c =
     let a = c .before .before .before .before .before .before .before .before .before .before .before .before .args in
     let o = c .before .before .read-outline in
-    opened-span (width (a .long)) (a .n) (a .loca .now) (a .glyf .now) (a .g) (a .s .now) (o .last .1 .0) (span.At (c .before .before .before .before .before .before .span .given .0 .0) (c .before .before .before .before .before .before .span .given .0 .1 .0)) (o .result)
-    (sym (c .before .before .before .before .before .before .before .before .locate .ensures) ∙ c .before .before .before .before .before .before .span .given .1) (o .ensures)
+    opened-there (width (a .long)) (a .n) (a .loca .now) (a .glyf .now) (a .g) (a .s .now) (o .last .1 .0) (o .result) (sym (c .before .before .before .before .before .before .before .before .locate .ensures) ∙ c .before .before .before .before .before .before .span .given .1) (o .ensures)
 
 returns-2 : tie.Need-returns-2
 returns-2 c =
     let a = c .before .before .before .before .before .before .args in
-    opened-span (width (a .long)) (a .n) (a .loca .now) (a .glyf .now) (a .g) (a .s .now) (a .s .now) span.Bad false (sym (c .before .before .locate .ensures) ∙ c .enum-told .given .1) (opened-none (a .n) (a .s .now) false)
+    opened-nowhere (width (a .long)) (a .n) (a .loca .now) (a .glyf .now) (a .g) (a .s .now) (sym (c .before .before .locate .ensures) ∙ c .enum-told .given .1)
 
 pub read-glyph-spec : {M : Type 1} → statement M
 read-glyph-spec =

@@ -1,9 +1,10 @@
 -- By the outline's shape: only a composite has components.
 use mathlib.Core.Path.{sym, _∙_}
-use mathlib.Core.Bool.{true, false}
 use borrow.Author.Needs.{needs}
+use lib.ListN.{length}
 use Rattle.outline.specs.declared.Shape.the-variants.{Empty, Simple, Composite, Bad}
-use Rattle.outline.proofs.Glyphs.{partsBy}
+use Rattle.outline.proofs.Glyphs.{partsBy, keptBy}
+use Rattle.closure.specs.declared.Read.the-variants as read
 use Rattle.closure.proofs.Reading.{opened-none, opened-shape}
 use Rattle.closure.proofs.read_outline.Statement.{statement}
 use Rattle.closure.proofs.read_outline.Tie as tie
@@ -27,32 +28,32 @@ enum-told-4 : tie.Need-enum-told-4
 enum-told-4 c = search needs
 
 returns : tie.Need-returns
-unfolding partsBy
+unfolding partsBy keptBy
 returns c =
     let a = c .before .before .before .before .before .args in
-    opened-shape (a .n) (a .b .now) (a .s .now) (a .s .now) Empty true (sym (c .before .before .shape-of .ensures) ∙ c .enum-told .given .1) (opened-none (a .n) (a .s .now) true)
+    opened-shape (a .n) (a .b .now) (a .s .now) (a .s .now) Empty (read.Kept 0) (sym (c .before .before .shape-of .ensures) ∙ c .enum-told .given .1) (opened-none (a .n) (a .s .now) (read.Kept 0))
 
 returns-2 : tie.Need-returns-2
-unfolding partsBy
+unfolding partsBy keptBy
 returns-2 c =
     let a = c .before .before .before .before .before .args in
-    opened-shape (a .n) (a .b .now) (a .s .now) (a .s .now) Simple true (sym (c .before .before .shape-of .ensures) ∙ c .enum-told2 .given .1) (opened-none (a .n) (a .s .now) true)
+    opened-shape (a .n) (a .b .now) (a .s .now) (a .s .now) Simple (read.Kept (length (a .b .now))) (sym (c .before .before .shape-of .ensures) ∙ c .enum-told2 .given .1) (opened-none (a .n) (a .s .now) (read.Kept (length (a .b .now))))
 
 same-length : tie.Need-same-length
 same-length c = search needs
 
 returns-3 : tie.Need-returns-3
-unfolding partsBy
+unfolding partsBy keptBy
 returns-3 c =
     let a = c .before .before .before .before .before .before .before .before .before .args in
     let o = c .before .before .offer-components in
     opened-shape (a .n) (a .b .now) (a .s .now) (o .last .1 .0) Composite (o .result) (sym (c .before .before .before .before .before .before .shape-of .ensures) ∙ c .before .before .before .before .enum-told3 .given .1) (o .ensures)
 
 returns-4 : tie.Need-returns-4
-unfolding partsBy
+unfolding partsBy keptBy
 returns-4 c =
     let a = c .before .before .before .before .before .args in
-    opened-shape (a .n) (a .b .now) (a .s .now) (a .s .now) Bad false (sym (c .before .before .shape-of .ensures) ∙ c .enum-told4 .given .1) (opened-none (a .n) (a .s .now) false)
+    opened-shape (a .n) (a .b .now) (a .s .now) (a .s .now) Bad read.Bad (sym (c .before .before .shape-of .ensures) ∙ c .enum-told4 .given .1) (opened-none (a .n) (a .s .now) read.Bad)
 
 pub read-outline-spec : {M : Type 1} → statement M
 read-outline-spec =

@@ -1,9 +1,8 @@
 use Rattle.lines.proofs.Bounds.{font-kept, font-file}
-use Rattle.answer.specs.Answers.{answerOf}
 use lib.Seq.{length-take-le}
 use lib.ListN.{length, take, length-take}
 use native.Mathlib.Omega.{arith}
-use mathlib.Core.Path.{_≡_, refl, sym, ap, _∙_}
+use mathlib.Core.Path.{sym}
 use borrow.Author.Needs.{needs}
 use Rattle.cut.proofs.cut.Statement.{statement}
 use Rattle.cut.proofs.cut.Tie as tie

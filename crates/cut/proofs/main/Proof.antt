@@ -1,8 +1,7 @@
 use Rattle.lines.specs.Ids.{room}
 use lib.Seq.{length-take-le}
 use lib.ListN.{length, take}
-use native.Mathlib.Omega.{arith}
-use mathlib.Core.Path.{_≡_, refl, sym, ap, _∙_}
+use mathlib.Core.Path.{sym, ap}
 use borrow.Author.Needs.{needs}
 use Rattle.cut.proofs.main.Statement.{statement}
 use Rattle.cut.proofs.main.Tie as tie

@@ -1,6 +1,5 @@
 use borrow.Author.Needs.{needs}
 use lib.ListN.{length}
-use native.Mathlib.Omega.{arith}
 use mathlib.Core.Path.{_≡_}
 use Rattle.cut.proofs.read_list.Statement.{statement}
 use Rattle.cut.proofs.read_list.Tie as tie

@@ -4,7 +4,7 @@ use lib.Seq.{take-suc-set, length-take-le}
 use lib.ListN.{length, length-take}
 use native.Mathlib.Numerals.{add-one}
 use native.Mathlib.Omega.{arith}
-use mathlib.Core.Path.{_≡_, sym, ap, _∙_}
+use mathlib.Core.Path.{sym, _∙_}
 use borrow.Author.Needs.{needs}
 use Rattle.lines.proofs.close.Statement.{statement}
 use Rattle.lines.proofs.close.Tie as tie

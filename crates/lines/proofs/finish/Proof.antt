@@ -1,9 +1,9 @@
 use Rattle.lines.proofs.Machine.{not-true, not-false, last-bad, last-outside, last-inside, take-least}
-use Rattle.lines.specs.Ids.{given, stateOf}
+use Rattle.lines.specs.Ids.{stateOf}
 use lib.ListN.{length, take}
 use native.Mathlib.Omega.{arith}
 use mathlib.Core.Option.{some}
-use mathlib.Core.Path.{_≡_, refl, sym, ap, _∙_}
+use mathlib.Core.Path.{refl, sym, ap, _∙_}
 use borrow.Author.Needs.{needs}
 use Rattle.lines.proofs.finish.Statement.{statement}
 use Rattle.lines.proofs.finish.Tie as tie

@@ -1,7 +1,7 @@
 use Rattle.lines.proofs.Machine.{grown-over, grown-more}
 use Rattle.lines.specs.Ids.{stateOf}
 use native.Mathlib.Omega.{arith}
-use mathlib.Core.Path.{_≡_, sym, ap, _∙_}
+use mathlib.Core.Path.{sym, _∙_}
 use borrow.Author.Needs.{needs}
 use Rattle.lines.proofs.grow.Statement.{statement}
 use Rattle.lines.proofs.grow.Tie as tie

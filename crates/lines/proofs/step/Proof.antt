@@ -2,7 +2,7 @@ use Rattle.lines.proofs.Machine.{not-true, not-false, stepped-bad, step
 use Rattle.lines.specs.Ids.{stateOf}
 use lib.ListN.{length}
 use native.Mathlib.Omega.{arith}
-use mathlib.Core.Path.{_≡_, sym, ap, _∙_}
+use mathlib.Core.Path.{sym, _∙_}
 use borrow.Author.Needs.{needs}
 use Rattle.lines.proofs.step.Statement.{statement}
 use Rattle.lines.proofs.step.Tie as tie

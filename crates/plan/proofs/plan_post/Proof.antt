@@ -1,14 +1,14 @@
--- Step 8 refuses, or it passes and so have all; it left the roster and the numbers.
-use mathlib.Core.Path.{sym, ap, _∙_, subst}
-use mathlib.Core.List.{List}
-use Prim.Native.Nat.{ℕ}
+-- Step 8 refuses, or it passes and so have all.
+use mathlib.Core.Path.{sym, ap, _∙_}
 use lib.ListN.{take}
 use Rattle.model.specs.Post.{cutPost}
 use Rattle.model.specs.Cut.{optional}
 use Rattle.answer.specs.Answers.{sizeOf}
 use Rattle.plan.specs.Steps.{lengthIn}
-use Rattle.plan.specs.Sources.{fontOf, MetricsPassed, PostPassed, afterPost, afterName}
-use Rattle.plan.proofs.Planning.{roster-stays, walked-stays, planned-refused, post-step, planned-found}
+use Rattle.plan.specs.Sources.{fontOf, afterPost, afterName}
+use Rattle.plan.proofs.Rostered.{few}
+use Rattle.plan.proofs.Sizes.{found}
+use Rattle.plan.proofs.Planning.{planned-refused, post-step, planned-found}
 use borrow.Author.Needs.{needs}
 use Rattle.plan.proofs.plan_post.Statement.{statement}
 use Rattle.plan.proofs.plan_post.Tie as tie
@@ -27,18 +27,8 @@ enum-known-size-2 c = search needs
 
 plan-sizes-requires : tie.Need-plan-sizes-requires
 plan-sizes-requires c κs =
-    let a = c .before .before .before .before .before .before .before .before .before .before .args in
-    let p = c .before .before .before .before .before .before .before .before .before .before .pre in
-    let z = c .before .before .before .before .before .before .post-size .ensures in
-    let v = c .before .before .size2 .given in
-    let e = sym (roster-stays (a .font .now) (a .s) (a .scratch .now) _ (a .kept) (p .0 .0) (p .0 .1) (z .untouched)) in (
-      (p .0 .0, walked-stays (a .font .now) (a .s) (a .scratch .now) _ (a .kept) (p .0 .0) (p .0 .1) (z .untouched)),
-      (
-        subst (λ (l : List ℕ). MetricsPassed (fontOf (a .font .now) (a .s)) l (a .count) (a .hmtx)) e (p .1 .0),
-        p .1 .1,
-        subst (λ (l : List ℕ). PostPassed (fontOf (a .font .now) (a .s)) l (v .0 .0)) e (ap sizeOf (sym (v .1)) ∙ z .size),
-      ),
-    )
+    let a = c .before .before .before .before .before .before .before .before .before .args in
+    few (a .font .now) (a .s) (a .scratch .now) (a .kept) (c .before .before .before .before .before .before .before .before .before .pre .0 .0) (c .before .before .before .before .before .before .before .before .before .pre .0 .1)
 
 same-length : tie.Need-same-length
 same-length c = search needs
@@ -57,10 +47,12 @@ same-length-2 c = search needs
 
 returns-2 : tie.Need-returns-2
 returns-2 c =
-    let a = c .before .before .before .before .before .before .before .before .before .before .before .args in
-    let p = c .before .before .before .before .before .before .before .before .before .before .before .pre in
-    planned-found (a .font .now) (a .s) (a .scratch .now) _ (a .kept) (p .0 .0) (p .0 .1) _ _ _ (c .before .before .before .before .before .before .before .post-size .ensures)
-    (ap sizeOf (c .before .before .before .size2 .given .1)) (c .plan-sizes .ensures)
+    let a = c .before .before .before .before .before .before .before .before .before .before .args in
+    let p = c .before .before .before .before .before .before .before .before .before .before .pre in
+    let z = c .before .before .before .before .before .before .post-size .ensures in
+    let v = c .before .before .size2 .given in
+    planned-found (fontOf (a .font .now) (a .s)) (a .s .n) (a .kept) (a .scratch .now) _ _ _ _ z (ap sizeOf (v .1))
+    (found (a .font .now) (a .s) (a .scratch .now) (a .kept) (p .0 .0) (p .0 .1) (a .count) (a .hmtx) (a .name) (v .0 .0) (a .sums) (p .0 .2) (p .1 .0) (p .1 .1) (ap sizeOf (sym (v .1)) ∙ z .size) _ (c .plan-sizes .ensures))
 
 pub plan-post-spec : {M : Type 1} → statement M
 plan-post-spec =

@@ -21,7 +21,7 @@ use Rattle.subset.proofs.rewrite.Statement.{statement}
 use Rattle.subset.proofs.rewrite.Tie as tie
 
 measure-requires : tie.Need-measure-requires
-measure-requires c κs = (c .before .before .before .before .pre .0, c .before .before .before .before .pre .1)
+measure-requires c κs = c .before .before .before .before .pre
 
 same-length : tie.Need-same-length
 same-length c = search needs
@@ -34,7 +34,7 @@ returns c =
     let T = fontOf (a .font .now) (a .s) in
     let v = c .before .before .before .before .measure .ensures in
     let p = c .before .before .before .before .measure .result in
-    let z = c .before .before .before .before .measure .last .1 .1 .1 .0 in
+    let z = c .before .before .before .before .measure .last .1 .1 .1 .1 .0 in
     rewrite-refused T (a .s .n) (a .kept) (a .scratch .now) z (a .out .now) p v (not-true (p .fits) (c .if1 .taken))
 
 narrow-requires : tie.Need-narrow-requires
@@ -51,7 +51,7 @@ returns-2 c =
     let T = fontOf (a .font .now) (a .s) in
     let v = c .before .before .before .before .before .before .measure .ensures in
     let p = c .before .before .before .before .before .before .measure .result in
-    let z = c .before .before .before .before .before .before .measure .last .1 .1 .1 .0 in
+    let z = c .before .before .before .before .before .before .measure .last .1 .1 .1 .1 .0 in
     let f = not-false (p .fits) (c .before .before .if1 .left) in
     let pieces = pieces-fine (a .font .now) (a .s) (a .scratch .now) (a .kept) o w in
     let n = c .before .narrow .ensures .one (not-true (c .before .narrow .result) (c .if2 .taken)) in
@@ -73,7 +73,7 @@ returns-3 c =
     let T = fontOf (a .font .now) (a .s) in
     let v = c .before .before .before .before .before .before .before .before .measure .ensures in
     let p = c .before .before .before .before .before .before .before .before .measure .result in
-    let z = c .before .before .before .before .before .before .before .before .measure .last .1 .1 .1 .0 in
+    let z = c .before .before .before .before .before .before .before .before .measure .last .1 .1 .1 .1 .0 in
     let f = not-false (p .fits) (c .before .before .before .before .if1 .left) in
     let pieces = pieces-fine (a .font .now) (a .s) (a .scratch .now) (a .kept) o w in
     let e = c .before .lay-out .ensures in
@@ -91,7 +91,7 @@ returns-4 c =
     let T = fontOf (a .font .now) (a .s) in
     let v = c .before .before .before .before .before .before .before .before .before .measure .ensures in
     let p = c .before .before .before .before .before .before .before .before .before .measure .result in
-    let z = c .before .before .before .before .before .before .before .before .before .measure .last .1 .1 .1 .0 in
+    let z = c .before .before .before .before .before .before .before .before .before .measure .last .1 .1 .1 .1 .0 in
     let f = not-false (p .fits) (c .before .before .before .before .before .if1 .left) in
     let pieces = pieces-fine (a .font .now) (a .s) (a .scratch .now) (a .kept) o w in
     let e = c .before .before .lay-out .ensures in
@@ -106,7 +106,7 @@ write-file-requires c κs =
     let T = fontOf (a .font .now) (a .s) in
     let v = c .before .before .before .before .before .before .before .before .before .before .before .measure .ensures in
     let p = c .before .before .before .before .before .before .before .before .before .before .before .measure .result in
-    let z = c .before .before .before .before .before .before .before .before .before .before .before .measure .last .1 .1 .1 .0 in
+    let z = c .before .before .before .before .before .before .before .before .before .before .before .measure .last .1 .1 .1 .1 .0 in
     let f = not-false (p .fits) (c .before .before .before .before .before .before .before .if1 .left) in
     (writes-from (a .font .now) (a .s) (a .scratch .now) (a .kept) o w z p v f _ (c .before .before .before .before .lay-out .ensures) (c .before .before .before .if3 .left), c .before .before .if4 .left)
 
@@ -124,7 +124,7 @@ returns-5 c =
     let T = fontOf (a .font .now) (a .s) in
     let v = c .before .before .before .before .before .before .before .before .before .before .before .before .before .before .measure .ensures in
     let p = c .before .before .before .before .before .before .before .before .before .before .before .before .before .before .measure .result in
-    let z = c .before .before .before .before .before .before .before .before .before .before .before .before .before .before .measure .last .1 .1 .1 .0 in
+    let z = c .before .before .before .before .before .before .before .before .before .before .before .before .before .before .measure .last .1 .1 .1 .1 .0 in
     let f = not-false (p .fits) (c .before .before .before .before .before .before .before .before .before .before .if1 .left) in
     let pieces = pieces-fine (a .font .now) (a .s) (a .scratch .now) (a .kept) o w in
     let e = c .before .before .before .before .before .before .before .lay-out .ensures in

@@ -14,7 +14,7 @@ element-copy-out-to : tie.Need-element-copy-out-to
 element-copy-out-to c = search needs
 
 here : (c : tie.Then1) → let a = c .before .before .before .before .before .before .args in Spot (a .new) (a .k) (newBody (a .font .now) (a .s) (a .scratch .now) (a .kept) (a .k)) (a .out .now)
-here c = let q = c .before .before .before .before .before .before .pre in let a = c .before .before .before .before .before .before .args in spot (q .1) (a .out .now) (q .2) (a .k) (q .0) (c .if1 .taken)
+here c = let q = c .before .before .before .before .before .before .pre in let a = c .before .before .before .before .before .before .args in spot (q .1) (a .out .now) (q .2) (a .k) (q .0 .known) (c .if1 .taken)
 
 sub-write-table : tie.Need-sub-write-table
 sub-write-table c = omega (arith, here c .inside)
@@ -29,7 +29,7 @@ write-table-requires : tie.Need-write-table-requires
 write-table-requires c κs =
     let q = c .before .before .before .before .before .before .before .pre in
     let a = c .before .before .before .before .before .before .before .args in
-    (q .0, fits (q .1) (a .out .now) (q .2) (a .k) (q .0) (c .before .if1 .taken))
+    (q .0, fits (q .1) (a .out .now) (q .2) (a .k) (q .0 .known) (c .before .if1 .taken))
 
 pad-requires : tie.Need-pad-requires
 pad-requires c κs = pad-fits (here (c .before .before .before .before .before)) _ (c .before .before .before .write-table .ensures)

@@ -1,13 +1,13 @@
 use Prim.Native.Nat.{_+_}
 use Rattle.lines.specs.Print.{decimal}
 use Rattle.model.specs.Bytes.{put}
-use lib.ListN.{length, take, length-append}
-use mathlib.Core.List.{[], _∷_, _++_}
+use lib.ListN.{length}
+use mathlib.Core.List.{[], _∷_}
 use Rattle.lines.proofs.Rows.{put-byte, puts-both}
 use Rattle.lines.proofs.Width.{decimal-of, decimal-fits}
-use lib.ListN.{length, take, length-take}
+use lib.ListN.{length}
 use native.Mathlib.Omega.{arith}
-use mathlib.Core.Path.{_≡_, refl, sym, ap, _∙_}
+use mathlib.Core.Path.{_≡_, refl, ap, _∙_}
 use borrow.Author.Needs.{needs}
 use Rattle.lines.proofs.print.put_number.Statement.{statement}
 use Rattle.lines.proofs.print.put_number.Tie as tie

@@ -2,9 +2,9 @@ use borrow.Author.Needs.{needs}
 use Rattle.lines.proofs.Rows.{rows-put, rows-none}
 use Rattle.lines.specs.Print.{row, rows, Puts}
 use lib.Seq.{take-length}
-use lib.ListN.{length, take, getD}
+use lib.ListN.{length, take}
 use native.Mathlib.Omega.{arith}
-use mathlib.Core.Path.{_≡_, refl, sym, _∙_}
+use mathlib.Core.Path.{_≡_, refl}
 use Prim.Native.Nat.{_+_, _*_, _-_, _≤_}
 use Rattle.lines.proofs.print.put_rows.Statement.{statement}
 use Rattle.lines.proofs.print.put_rows.Tie as tie
