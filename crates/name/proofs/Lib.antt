@@ -1,4 +1,5 @@
--- Laws of the name table by row numbers, of its distinct strings, and of the new table.
+-- Laws of the name table by row numbers, of the order of its strings, of the distinct ones, and of the new table.
 pub mod Rows
+pub mod Order
 pub mod Strings
 pub mod Table

@@ -1,23 +1,22 @@
 -- The distinct strings row by row: a kept string is one of them already, or becomes the last; what is stored keeps its offset.
-use mathlib.Core.Path.{_≡_, refl, sym, ap, _∙_}
+use mathlib.Core.Path.{_≡_, refl, sym, ap, ap₂, _∙_}
 use mathlib.Core.Bool.{true, false}
 use mathlib.Core.List.{List, [], _∷_, _++_, map, append-assoc, append-nil, map-append}
 use Prim.Native.Nat.{ℕ, zero, suc, _+_, _-_, _≤_, _<_}
 use native.Mathlib.Omega.{arith}
-use native.Mathlib.Nat.{zero-add, add-zero, add-assoc}
+use native.Mathlib.Nat.{zero-add}
 use native.Mathlib.Numerals.{add-one}
 use lib.Dec.{eqb, ltb}
-use lib.ListN.{length, take, drop, getD, length-append, length-take, length-drop, length-set, set, drop-of-length-le, List·getD-append}
-use lib.Seq.{drop-cons, getD-at, take-suc-set, length-take-le, getD-take, getD-drop}
-use borrow.Author.Tests.{eq-eqb, ne-eqb, ltb-true, ltb-false, le-leb, lt-leb}
-use Rattle.model.specs.Res.{refuse, ok, pick, both}
+use lib.ListN.{length, take, getD, length-append, length-set, set, List·getD-append}
+use lib.Seq.{getD-at, take-suc-set, length-take-le, getD-take, getD-set-same, getD-set-other}
+use borrow.Author.Tests.{eq-eqb, eqb-true, ltb-true, ltb-false, le-leb, lt-leb}
+use Rattle.model.specs.Res.{refuse, ok, pick}
 use Rattle.model.specs.Bytes.{Bytes, word16, concat, sameBytes}
 use Rattle.model.specs.Name.{NameEntry, stored?, store, offsetOf}
 use Rattle.model.proofs.Res.{both-true, true-false}
-use Rattle.name.specs.declared.Found.{Found}
-use Rattle.name.specs.declared.Found.the-variants.{At, Nowhere}
-use Rattle.name.specs.Rows.{stringStart, stringLength, stringAt, keptAt, entryAt, entries, strings, firstRows, searchFrom, distinctBytes, Inside, Searchable, Uses, Roomy}
+use Rattle.name.specs.Rows.{stringLength, stringAt, keptAt, entryAt, entries, strings, firstRows, distinctBytes, Between, Inserted, Inside, Searchable, Uses, Roomy, Lent, Notable}
 use Rattle.name.proofs.Rows.{by, entries-kept, entries-skip}
+use Rattle.name.proofs.Order.{length-string, between-absent, ordered-more}
 
 pub concat-append : (xs ys : List Bytes) → concat (xs ++ ys) ≡ concat xs ++ concat ys
 concat-append [] ys = refl
@@ -28,21 +27,13 @@ pub same-refl : (x : Bytes) → sameBytes x x ≡ true
 same-refl [] = refl
 same-refl (a ∷ x) = simp (eq-eqb a a refl, same-refl x)
 
-pub same-length : (x s : Bytes) → sameBytes x s ≡ true → length x ≡ length s
-same-length [] [] e = refl
-same-length [] (b ∷ s) e = true-false (sym e)
-same-length (a ∷ x) [] e = true-false (sym e)
-same-length (a ∷ x) (b ∷ s) e = ap suc (same-length x s (both-true (eqb a b) (sameBytes x s) e .1))
-
-module _ (x s : Bytes) (k : ℕ) (hx : k < length x) (hs : k < length s) where
-  at-k : sameBytes (drop k x) (drop k s) ≡ both (eqb (getD x k 0) (getD s k 0)) (sameBytes (drop (k + 1) x) (drop (k + 1) s))
-  at-k = rw (drop-cons x k 0 hx, drop-cons s k 0 hs, add-one k)
-
-  pub same-turn : getD x k 0 ≡ getD s k 0 → sameBytes (drop k x) (drop k s) ≡ sameBytes (drop (k + 1) x) (drop (k + 1) s)
-  same-turn e = at-k ∙ rw (eq-eqb (getD x k 0) (getD s k 0) e)
-
-  pub same-stop : (getD x k 0 ≡ getD s k 0 → ⊥) → sameBytes (drop k x) (drop k s) ≡ false
-  same-stop e = at-k ∙ rw (ne-eqb (getD x k 0) (getD s k 0) e)
+same-eq : (x s : Bytes) → sameBytes x s ≡ true → x ≡ s
+same-eq [] [] e = refl
+same-eq [] (b ∷ s) e = true-false (sym e)
+same-eq (a ∷ x) [] e = true-false (sym e)
+same-eq (a ∷ x) (b ∷ s) e =
+    let q = both-true (eqb a b) (sameBytes x s) e in
+    ap₂ (λ (c : ℕ) (r : Bytes). c ∷ r) (eqb-true a b (q .0)) (same-eq x s (q .1))
 
 -- what is stored, and where
 pub store-snoc : (xs : List Bytes) (es : List NameEntry) (e : NameEntry)
@@ -69,75 +60,19 @@ offset-le s [] = omega arith
 offset-le s (x ∷ xs) =
     by (sameBytes x s) (λ f. simp f (omega arith)) (λ f. simp (f, length-append) (omega (arith, offset-le s xs)))
 
--- the search
-pub search-stored : (o : ℕ) (s : Bytes) (xs : List Bytes) → stored? s xs ≡ true → searchFrom o s xs ≡ At (o + offsetOf s xs)
-unfolding searchFrom
-search-stored o s [] e = true-false (sym e)
-search-stored o s (x ∷ xs) e =
-    by (sameBytes x s) (λ f. simp (f, add-zero)) (λ f. simp (f, search-stored (o + length x) s xs (simp f at e), add-assoc))
+-- the string of each of some rows is stored, one that no row has is not
+stored-at : (b : Bytes) (rows : List ℕ) (j : ℕ) → j < length rows → stored? (stringAt b (getD rows j 0)) (map (stringAt b) rows) ≡ true
+stored-at b [] j h = absurd (omega arith)
+stored-at b (r ∷ rs) zero h = simp (same-refl (stringAt b r))
+stored-at b (r ∷ rs) (suc j) h =
+    by (sameBytes (stringAt b r) (stringAt b (getD rs j 0))) (λ f. simp f) (λ f. simp (f, stored-at b rs j (omega arith)))
 
-pub search-absent : (o : ℕ) (s : Bytes) (xs : List Bytes) → stored? s xs ≡ false → searchFrom o s xs ≡ Nowhere
-unfolding searchFrom
-search-absent o s [] e = refl
-search-absent o s (x ∷ xs) e =
-    by (sameBytes x s) (λ f. true-false (simp f at e)) (λ f. simp (f, search-absent (o + length x) s xs (simp f at e)))
-
--- a string of the table, byte by byte
-module _ (b : Bytes) (i : ℕ) where
-  pub length-string : Inside b i → length (stringAt b i) ≡ stringLength b i
-  unfolding stringAt
-  length-string h = simp (length-take, length-drop) (omega (arith, h .string))
-
-  byte-at : (k : ℕ) → k < stringLength b i → getD (stringAt b i) k 0 ≡ getD b (stringStart b i + k) 0
-  unfolding stringAt
-  byte-at k h = getD-take (stringLength b i) (drop (stringStart b i) b) k 0 h ∙ getD-drop (stringStart b i) b k 0
-
--- a turn of it at place j of the rows, its stop, and its end
-module _ (b : Bytes) (o : ℕ) (s : Bytes) (rows : List ℕ) (j : ℕ) where
-  pub search-turn : (l : ℕ) → j < length rows → Inside b (getD rows j 0) → l ≡ stringLength b (getD rows j 0) → sameBytes (stringAt b (getD rows j 0)) s ≡ false
-      → searchFrom o s (map (stringAt b) (drop j rows)) ≡ searchFrom (o + l) s (map (stringAt b) (drop (j + 1) rows))
-  unfolding searchFrom
-  search-turn l h i el e =
-      let n : length (stringAt b (getD rows j 0)) ≡ l = length-string b (getD rows j 0) i ∙ sym el in
-      rw (drop-cons rows j 0 h, add-one j, e, n)
-
-  pub search-stop : j < length rows → sameBytes (stringAt b (getD rows j 0)) s ≡ true → searchFrom o s (map (stringAt b) (drop j rows)) ≡ At o
-  unfolding searchFrom
-  search-stop h e = rw (drop-cons rows j 0 h, e)
-
-  pub search-end : length rows ≤ j → searchFrom o s (map (stringAt b) (drop j rows)) ≡ Nowhere
-  unfolding searchFrom
-  search-end h = rw (drop-of-length-le rows h)
-
-module _ (b : Bytes) (f i : ℕ) (hf : Inside b f) (hi : Inside b i) where
-  pub strings-differ : (stringLength b f ≡ stringLength b i → ⊥) → sameBytes (stringAt b f) (stringAt b i) ≡ false
-  strings-differ h =
-      by (sameBytes (stringAt b f) (stringAt b i))
-      (λ e. absurd (h (sym (length-string b f hf) ∙ same-length (stringAt b f) (stringAt b i) e ∙ length-string b i hi)))
-      (λ e. e)
-
-  module _ (k : ℕ) (e : stringLength b f ≡ stringLength b i) where
-    pub bytes-end : k ≡ stringLength b i → sameBytes (drop k (stringAt b f)) (drop k (stringAt b i)) ≡ true
-    bytes-end h =
-        let hx : length (stringAt b f) ≤ k = omega (arith, length-string b f hf) in
-        let hs : length (stringAt b i) ≤ k = omega (arith, length-string b i hi) in
-        rw (drop-of-length-le (stringAt b f) hx, drop-of-length-le (stringAt b i) hs)
-
-    module _ (h : k < stringLength b i) (at start : ℕ) (ea : at ≡ stringStart b f) (es : start ≡ stringStart b i) where
-      byte-f : getD (stringAt b f) k 0 ≡ getD b (at + k) 0
-      byte-f = byte-at b f k (omega arith) ∙ ap (λ (n : ℕ). getD b (n + k) 0) (sym ea)
-
-      byte-i : getD (stringAt b i) k 0 ≡ getD b (start + k) 0
-      byte-i = byte-at b i k h ∙ ap (λ (n : ℕ). getD b (n + k) 0) (sym es)
-
-      pub bytes-turn : getD b (at + k) 0 ≡ getD b (start + k) 0
-          → sameBytes (drop k (stringAt b f)) (drop k (stringAt b i)) ≡ sameBytes (drop (k + 1) (stringAt b f)) (drop (k + 1) (stringAt b i))
-      bytes-turn g =
-          same-turn (stringAt b f) (stringAt b i) k (omega (arith, length-string b f hf)) (omega (arith, length-string b i hi)) (byte-f ∙ g ∙ sym byte-i)
-
-      pub bytes-stop : (getD b (at + k) 0 ≡ getD b (start + k) 0 → ⊥) → sameBytes (drop k (stringAt b f)) (drop k (stringAt b i)) ≡ false
-      bytes-stop g =
-          same-stop (stringAt b f) (stringAt b i) k (omega (arith, length-string b f hf)) (omega (arith, length-string b i hi)) (λ q. g (sym byte-f ∙ q ∙ byte-i))
+stored-none : (b s : Bytes) (rows : List ℕ) → ((j : ℕ) → j < length rows → stringAt b (getD rows j 0) ≡ s → ⊥) → stored? s (map (stringAt b) rows) ≡ false
+stored-none b s [] h = refl
+stored-none b s (r ∷ rs) h =
+    by (sameBytes (stringAt b r) s)
+    (λ f. absurd (h 0 (omega arith) (same-eq (stringAt b r) s f)))
+    (λ f. simp (f, stored-none b s rs (λ j l. h (suc j) (omega arith))))
 
 -- a row more, in the strings and in the rows of first uses
 module _ (b : Bytes) (i : ℕ) where
@@ -235,75 +170,88 @@ firsts-inside b (suc n) t =
     (λ e. rw (firsts-new b n k e) (snoc-each (Inside b) (firstRows b n) n ih (t n (omega arith) k))))
     (λ k. rw (firsts-skip b n k) ih))
 
--- a kept row's string is noted: its rows and bytes so far, before and after
-module _ (b : Bytes) (firsts : List ℕ) (used end row : ℕ) (r : Roomy b (length firsts)) (lt : row < word16 b 2) (k : keptAt b row ≡ true) (u : Uses b row firsts used end) where
-  used-few : used < length (entries b (word16 b 2))
+-- a kept row's string is noted: the first uses and their bytes so far, before and after
+module _ (b : Bytes) (firsts offsets order : List ℕ) (used end row : ℕ) (n : Notable b row firsts offsets order used end) where
+  pub used-few : used < length (entries b (word16 b 2))
   used-few =
-      let n : length (firstRows b row) ≡ used = ap length (sym (u .rows)) ∙ length-take-le used firsts (u .room) in
-      omega (arith, length-firsts b row, entries-before b row (word16 b 2) lt k)
+      let l : length (firstRows b row) ≡ used = ap length (sym (n .uses .rows)) ∙ length-take-le used firsts (n .uses .room) in
+      omega (arith, length-firsts b row, entries-before b row (word16 b 2) (n .row) (n .kept))
 
   pub used-room : used < length firsts
-  used-room = omega (arith, used-few, r .room)
+  used-room = omega (arith, used-few, n .lent .room .room)
 
-  pub used-searchable : Searchable b (take used firsts) row
+  pub used-searchable : Searchable b firsts order used row
   used-searchable =
+      let q : (j : ℕ) → j < length (take used firsts) → Inside b (getD (take used firsts) j 0) =
+      rw (n .uses .rows) (firsts-inside b row (λ i l k. n .lent .room .tested .inside i (omega (arith, n .row)) k)) in
       record {
-        sought = r .tested .inside row lt k;
-        among = rw (u .rows) (firsts-inside b row (λ i h q. r .tested .inside i (omega arith) q));
-        few = rw (length-take-le used firsts (u .room)) (omega (arith, used-few, r .few));
+        sought = n .lent .room .tested .inside row (n .row) (n .kept);
+        among = λ j h. rw (getD-take used firsts j 0 h) at (q j (rw (length-take-le used firsts (n .uses .room)) h));
+        ordered = n .uses .ordered;
+        rows = n .uses .room;
+        places = omega (arith, n .uses .room, n .lent .third);
       }
 
-  -- what was searched are the distinct strings so far
-  searched : map (stringAt b) (take used firsts) ≡ strings b row
-  searched = ap (map (stringAt b)) (u .rows) ∙ firsts-strings b row
+  -- the strings of the noted rows are the distinct strings so far
+  noted-strings : map (stringAt b) (take used firsts) ≡ strings b row
+  noted-strings = ap (map (stringAt b)) (n .uses .rows) ∙ firsts-strings b row
 
-  module _ (f : Found) (e : f ≡ searchFrom 0 (stringAt b row) (map (stringAt b) (take used firsts))) where
-    from-strings : f ≡ searchFrom 0 (stringAt b row) (strings b row)
-    from-strings = e ∙ ap (searchFrom 0 (stringAt b row)) searched
+  noted-stored : (j : ℕ) → j < used → stored? (stringAt b (getD firsts j 0)) (strings b row) ≡ true
+  noted-stored j h =
+      rw (noted-strings, getD-take used firsts j 0 h) at (stored-at b (take used firsts) j (rw (length-take-le used firsts (n .uses .room)) h))
 
-    at-stored : (o : ℕ) → f ≡ At o → (stored? (stringAt b row) (strings b row) ≡ true) × (offsetOf (stringAt b row) (strings b row) ≡ o)
-    at-stored o g =
-        by (stored? (stringAt b row) (strings b row))
-        (λ t.
-        let s : At (0 + offsetOf (stringAt b row) (strings b row)) ≡ At o = sym (search-stored 0 (stringAt b row) (strings b row) t) ∙ sym from-strings ∙ g in
-        let z : 0 + offsetOf (stringAt b row) (strings b row) ≡ o = cc in
-        (t, rw zero-add at z))
-        (λ t.
-        let s : Nowhere ≡ At o = sym (search-absent 0 (stringAt b row) (strings b row) t) ∙ sym from-strings ∙ g in
-        let z : _≡_ {A = ℕ} 0 1 = cc in absurd (omega arith))
+  pub noted-old : (j o : ℕ) → j < used → stringAt b (getD firsts j 0) ≡ stringAt b row → o ≡ getD offsets j 0
+      → Uses b (row + 1) firsts offsets order used end × (o ≡ offsetOf (stringAt b row) (strings b (row + 1)))
+  noted-old j o h e eo =
+      let t : stored? (stringAt b row) (strings b row) ≡ true = rw e at (noted-stored j h) in
+      let q = strings-old b row (n .kept) t in (
+        record {
+          rows = n .uses .rows ∙ sym (firsts-old b row (rw (firsts-strings b row) t));
+          room = n .uses .room;
+          bytes = n .uses .bytes ∙ ap (λ xs. length (concat xs)) (sym q);
+          starts = rw q (n .uses .starts);
+          ordered = n .uses .ordered;
+        },
+        eo ∙ n .uses .starts j h ∙ ap (λ (x : Bytes). offsetOf x (strings b row)) e ∙ ap (offsetOf (stringAt b row)) (sym q),
+      )
 
-    not-stored : f ≡ Nowhere → stored? (stringAt b row) (strings b row) ≡ false
-    not-stored g =
-        by (stored? (stringAt b row) (strings b row))
-        (λ t.
-        let s : At (0 + offsetOf (stringAt b row) (strings b row)) ≡ Nowhere = sym (search-stored 0 (stringAt b row) (strings b row) t) ∙ sym from-strings ∙ g in
-        let z : _≡_ {A = ℕ} 0 1 = cc in absurd (omega arith))
-        (λ t. t)
+  module _ (new : List ℕ) (p : ℕ) (w : Between b firsts order used (stringAt b row) p p) where
+    not-stored : stored? (stringAt b row) (strings b row) ≡ false
+    not-stored =
+        rw noted-strings
+        at (stored-none b (stringAt b row) (take used firsts) (λ j h e.
+        let l : j < used = rw (length-take-le used firsts (n .uses .room)) at h in
+        between-absent b firsts order used (stringAt b row) (n .uses .ordered) p p w refl j l (rw (getD-take used firsts j 0 l) at e)))
 
-    pub noted-old : (o : ℕ) → f ≡ At o → Uses b (row + 1) firsts used end × (o ≡ offsetOf (stringAt b row) (strings b (row + 1)))
-    noted-old o g =
-        let t = at-stored o g in
-        let n = strings-old b row k (t .0) in (
+    starts-new : (j : ℕ) → j < used + 1 → getD (set offsets used end) j 0 ≡ offsetOf (stringAt b (getD (set firsts used row) j 0)) (strings b row ++ (stringAt b row ∷ []))
+    starts-new j h =
+        by (ltb j used)
+        (λ e.
+        let l : j < used = ltb-true j used e in
+        let d : j ≡ used → ⊥ = λ q. omega arith in
+        rw (getD-set-other offsets used j end 0 d, getD-set-other firsts used j row 0 d)
+        (n .uses .starts j l ∙ sym (offset-grow (stringAt b (getD firsts j 0)) (strings b row) (stringAt b row ∷ []) (noted-stored j l))))
+        (λ e.
+        let q : j ≡ used = omega (arith, ltb-false j used e) in
+        rw (q, getD-set-same offsets used end 0 (omega (arith, used-room, n .lent .second)), getD-set-same firsts used row 0 used-room)
+        (n .uses .bytes ∙ sym (offset-last (stringAt b row) (strings b row) not-stored)))
+
+    pub noted-new : (l : ℕ) → l ≡ stringLength b row → Inserted order new used p
+        → Uses b (row + 1) (set firsts used row) (set offsets used end) new (used + 1) (end + l) × (end ≡ offsetOf (stringAt b row) (strings b (row + 1)))
+    noted-new l el i =
+        let q = strings-new b row (n .kept) not-stored in
+        let len : length (stringAt b row) ≡ l = length-string b row (n .lent .room .tested .inside row (n .row) (n .kept)) ∙ sym el in (
           record {
-            rows = u .rows ∙ sym (firsts-old b row (rw (firsts-strings b row) (t .0)));
-            room = u .room;
-            bytes = u .bytes ∙ ap (λ xs. length (concat xs)) (sym n);
-          },
-          sym (t .1) ∙ ap (offsetOf (stringAt b row)) (sym n),
-        )
-
-    pub noted-new : (l : ℕ) → f ≡ Nowhere → l ≡ stringLength b row
-        → Uses b (row + 1) (set firsts used row) (used + 1) (end + l) × (end ≡ offsetOf (stringAt b row) (strings b (row + 1)))
-    noted-new l g el =
-        let t = not-stored g in
-        let n = strings-new b row k t in
-        let len : length (stringAt b row) ≡ l = length-string b row (r .tested .inside row lt k) ∙ sym el in (
-          record {
-            rows = rw (add-one used) (take-suc-set firsts used row used-room ∙ ap (λ xs. xs ++ (row ∷ [])) (u .rows) ∙ sym (firsts-new b row k (rw (firsts-strings b row) t)));
+            rows =
+                rw (add-one used) (take-suc-set firsts used row used-room
+                ∙ ap (λ xs. xs ++ (row ∷ [])) (n .uses .rows)
+                ∙ sym (firsts-new b row (n .kept) (rw (firsts-strings b row) not-stored)));
             room = rw length-set (omega (arith, used-room));
-            bytes = rw (n, concat-append, length-append, append-nil, len) (ap (λ (x : ℕ). x + l) (u .bytes));
+            bytes = rw (q, concat-append, length-append, append-nil, len) (ap (λ (x : ℕ). x + l) (n .uses .bytes));
+            starts = rw q starts-new;
+            ordered = ordered-more b firsts order new used row p used-room (n .uses .ordered) w i;
           },
-          u .bytes ∙ sym (rw n (offset-last (stringAt b row) (strings b row) t)),
+          n .uses .bytes ∙ sym (rw q (offset-last (stringAt b row) (strings b row) not-stored)),
         )
 
 -- later rows add strings behind
@@ -339,16 +287,25 @@ module _ (b : Bytes) where
       rw (g .joined, concat-append, length-append) (omega arith)
 
   -- the pass that adds up the bytes: its start, a row that is not kept, its stop, its end
-  pub uses-start : (firsts : List ℕ) → Uses b 0 firsts 0 0
+  pub uses-start : (firsts offsets order : List ℕ) → Uses b 0 firsts offsets order 0 0
   unfolding firstRows strings entries
-  uses-start firsts = record { rows = refl; room = omega arith; bytes = refl }
+  uses-start firsts offsets order =
+      record {
+        rows = refl;
+        room = omega arith;
+        bytes = refl;
+        starts = λ j h. absurd (omega arith);
+        ordered = record { number = λ k h. absurd (omega arith); every = λ j h. absurd (omega arith); ascending = λ k l h t. absurd (omega arith) };
+      }
 
-  pub uses-skip : (firsts : List ℕ) (used end i : ℕ) → keptAt b i ≡ false → Uses b i firsts used end → Uses b (i + 1) firsts used end
-  uses-skip firsts used end i k u =
+  pub uses-skip : (firsts offsets order : List ℕ) (used end i : ℕ) → keptAt b i ≡ false → Uses b i firsts offsets order used end → Uses b (i + 1) firsts offsets order used end
+  uses-skip firsts offsets order used end i k u =
       record {
         rows = u .rows ∙ sym (firsts-skip b i k);
         room = u .room;
         bytes = u .bytes ∙ ap (λ xs. length (concat xs)) (sym (strings-skip b i k));
+        starts = rw (strings-skip b i k) (u .starts);
+        ordered = u .ordered;
       }
 
   pub bytes-over : (n e : ℕ) → n ≤ word16 b 2 → e ≡ length (concat (strings b n)) → 65535 < e → refuse 5 ≡ distinctBytes b
@@ -366,6 +323,11 @@ module _ (b : Bytes) where
   -- room for so many rows is room enough
   pub roomy-rows : (places rows : ℕ) → Roomy b places → word16 b 2 ≤ rows → Roomy b rows
   roomy-rows places rows r h = record { tested = r .tested; room = omega (arith, length-entries b (word16 b 2)); few = r .few }
+
+  pub lent-rows : (firsts offsets order firsts₀ offsets₀ order₀ : List ℕ) → Lent b firsts₀ offsets₀ order₀
+      → length firsts ≡ length firsts₀ → length offsets ≡ length offsets₀ → length order ≡ length order₀ → Lent b firsts offsets order
+  lent-rows firsts offsets order firsts₀ offsets₀ order₀ l e f g =
+      record { room = rw e (l .room); second = f ∙ l .second ∙ sym e; third = g ∙ l .third ∙ sym e }
 
   -- a kept row's string is stored, where it stays
   pub string-stays : (i n : ℕ) → i < n → keptAt b i ≡ true → offsetOf (stringAt b i) (strings b (i + 1)) ≡ offsetOf (stringAt b i) (strings b n)

@@ -17,7 +17,8 @@ use Rattle.model.proofs.Res.{ok-refuse, ok-inj, true-false, bind-ok}
 use Rattle.model.proofs.Bytes.{put-put, put-zero}
 use Rattle.name.specs.Rows.{stringAt, keptAt, entryAt, entries, strings, distinctBytes, newRecord, newRecords, newTable, Inside, Tested, Roomy, Recorded}
 use Rattle.name.proofs.Rows.{by, entries-kept, entries-skip, named-inv}
-use Rattle.name.proofs.Strings.{concat-append, length-string, string-stays, firsts-strings, firsts-inside}
+use Rattle.name.proofs.Order.{length-string}
+use Rattle.name.proofs.Strings.{concat-append, string-stays, firsts-strings, firsts-inside}
 
 -- a record, and records row by row
 module _ (b : Bytes) (i : ℕ) where

@@ -6,8 +6,8 @@ use Prim.Native.Nat.{ℕ, zero, suc, _+_, _*_, _≤_, _<_}
 use lib.Dec.{leb}
 use lib.ListN.{length, take, drop, getD}
 use Rattle.model.specs.Res.{Res, refuse, ok, pick, both, need, each, _>>_}
-use Rattle.model.specs.Bytes.{Bytes, word16, be16, put, part, concat, sameBytes}
-use Rattle.model.specs.Name.{NameEntry, nameRows, keptRows, nameEntry, isKept, stored?, store, newRow, newName}
+use Rattle.model.specs.Bytes.{Bytes, word16, be16, put, part, concat}
+use Rattle.model.specs.Name.{NameEntry, nameRows, keptRows, nameEntry, isKept, stored?, store, offsetOf, newRow, newName}
 use Rattle.name.specs.declared.Found.{Found}
 use Rattle.name.specs.declared.Found.the-variants.{At, Nowhere}
 use Rattle.name.specs.declared.Counted.{Counted}
@@ -75,21 +75,71 @@ newTable b = do
   need 5 (leb (length (entries b (word16 b 2))) 5460)
   ok (newName (entries b (word16 b 2)))
 
--- the first equal string of a list, by its offset, the list itself starting at offset o
-unfoldable pub searchFrom : ℕ → Bytes → List Bytes → Found
-searchFrom o s [] = Nowhere
-searchFrom o s (x ∷ xs) = pick (sameBytes x s) (At o) (searchFrom (o + length x) s xs)
+-- eight bytes as a number, the last the highest
+unfoldable pub eightAt : Bytes → ℕ → ℕ
+eightAt b i =
+    getD b i 0 + 256 * (getD b (i + 1) 0 + 256 * (getD b (i + 2) 0 + 256 * (getD b (i + 3) 0
+    + 256 * (getD b (i + 4) 0 + 256 * (getD b (i + 5) 0 + 256 * (getD b (i + 6) 0 + 256 * getD b (i + 7) 0))))))
+
+-- the order of strings: by the length, then by the first byte in which they differ
+unfoldable pub key : Bytes → ℕ → ℕ
+key x zero = length x
+key x (suc k) = getD x k 0
+
+pub record Before (x y : Bytes) : Type 0 where
+  pub place : ℕ
+  pub same : (k : ℕ) → k < place → key x k ≡ key y k
+  pub less : key x place < key y place
+
+-- the string whose number stands at place k of the order
+unfoldable pub orderedAt : Bytes → List ℕ → List ℕ → ℕ → Bytes
+orderedAt b firsts order k = stringAt b (getD firsts (getD order k 0) 0)
+
+pub record Standing (order : List ℕ) (used j : ℕ) : Type 0 where
+  pub place : ℕ
+  pub below : place < used
+  pub there : getD order place 0 ≡ j
+
+-- the numbers of the `used` first uses, every one of them, in ascending order of their strings
+pub record Ordered (b : Bytes) (firsts order : List ℕ) (used : ℕ) : Type 0 where
+  pub number : (k : ℕ) → k < used → getD order k 0 < used
+  pub every : (j : ℕ) → j < used → Standing order used j
+  pub ascending : (k l : ℕ) → k < l → l < used → Before (orderedAt b firsts order k) (orderedAt b firsts order l)
+
+-- what stands below place `low` comes before s, what stands from place `high` on behind it
+pub record Between (b : Bytes) (firsts order : List ℕ) (used : ℕ) (s : Bytes) (low high : ℕ) : Type 0 where
+  pub meet : low ≤ high
+  pub within : high ≤ used
+  pub below : (k : ℕ) → k < low → Before (orderedAt b firsts order k) s
+  pub above : (k : ℕ) → high ≤ k → k < used → Before s (orderedAt b firsts order k)
+
+-- place p is given to the number `used`; what stood there and behind it has moved on by one
+pub record Inserted (old new : List ℕ) (used p : ℕ) : Type 0 where
+  pub below : (k : ℕ) → k < p → getD new k 0 ≡ getD old k 0
+  pub here : getD new p 0 ≡ used
+  pub above : (k : ℕ) → p ≤ k → k < used → getD new (k + 1) 0 ≡ getD old k 0
+
+-- k of the `size` bytes at two places are equal
+pub record Alike (b : Bytes) (at start size k : ℕ) : Type 0 where
+  pub within : k ≤ size
+  pub same : (i : ℕ) → i < k → getD b (at + i) 0 ≡ getD b (start + i) 0
 
 -- row i and its string lie in the table
 pub record Inside (b : Bytes) (i : ℕ) : Type 0 where
   pub row : 6 + 12 * i + 12 ≤ length b
   pub string : stringStart b i + stringLength b i ≤ length b
 
--- a row's string can be looked for among those of other rows
-pub record Searchable (b : Bytes) (rows : List ℕ) (i : ℕ) : Type 0 where
+-- a row's string can be looked for among the first uses, and what is found
+pub record Searchable (b : Bytes) (firsts order : List ℕ) (used i : ℕ) : Type 0 where
   pub sought : Inside b i
-  pub among : (j : ℕ) → j < length rows → Inside b (getD rows j 0)
-  pub few : length rows ≤ 5460
+  pub among : (j : ℕ) → j < used → Inside b (getD firsts j 0)
+  pub ordered : Ordered b firsts order used
+  pub rows : used ≤ length firsts
+  pub places : used ≤ length order
+
+pub record Sought (b : Bytes) (firsts order : List ℕ) (used i : ℕ) (f : Found) : Type 0 where
+  pub at : (j : ℕ) → f ≡ At j → (j < used) × (stringAt b (getD firsts j 0) ≡ stringAt b i)
+  pub nowhere : (p : ℕ) → f ≡ Nowhere p → Between b firsts order used (stringAt b i) p p
 
 -- what the tests of 3 and 4 made sure of
 pub record Tested (b : Bytes) : Type 0 where
@@ -97,29 +147,36 @@ pub record Tested (b : Bytes) : Type 0 where
   pub storage : word16 b 4 ≤ length b
   pub inside : (i : ℕ) → i < word16 b 2 → keptAt b i ≡ true → Inside b i
 
--- after n rows: `firsts` starts with the rows of the `used` first uses, whose strings fill `end` bytes
-pub record Uses (b : Bytes) (n : ℕ) (firsts : List ℕ) (used end : ℕ) : Type 0 where
+-- after n rows: `firsts` starts with the rows of the `used` first uses, `offsets` with where their strings start, which fill `end` bytes
+pub record Uses (b : Bytes) (n : ℕ) (firsts offsets order : List ℕ) (used end : ℕ) : Type 0 where
   pub rows : take used firsts ≡ firstRows b n
   pub room : used ≤ length firsts
   pub bytes : end ≡ length (concat (strings b n))
+  pub starts : (j : ℕ) → j < used → getD offsets j 0 ≡ offsetOf (stringAt b (getD firsts j 0)) (strings b n)
+  pub ordered : Ordered b firsts order used
 
--- every kept row can be noted in an array of so many places
+-- every kept row can be noted in so many places, or in these arrays
 pub record Roomy (b : Bytes) (places : ℕ) : Type 0 where
   pub tested : Tested b
   pub room : length (entries b (word16 b 2)) ≤ places
   pub few : length (entries b (word16 b 2)) ≤ 5460
 
--- a kept row's string can be noted
-pub record Notable (b : Bytes) (i : ℕ) (firsts : List ℕ) (used end : ℕ) : Type 0 where
+pub record Lent (b : Bytes) (firsts offsets order : List ℕ) : Type 0 where
   pub room : Roomy b (length firsts)
+  pub second : length offsets ≡ length firsts
+  pub third : length order ≡ length firsts
+
+-- a kept row's string can be noted
+pub record Notable (b : Bytes) (i : ℕ) (firsts offsets order : List ℕ) (used end : ℕ) : Type 0 where
+  pub lent : Lent b firsts offsets order
   pub row : i < word16 b 2
   pub kept : keptAt b i ≡ true
-  pub uses : Uses b i firsts used end
+  pub uses : Uses b i firsts offsets order used end
   pub small : end ≤ 65535
 
--- the table can be written, with so many places to note first uses and so many bytes of output
-pub record Writable (b : Bytes) (places size : ℕ) : Type 0 where
-  pub room : Roomy b places
+-- the table can be written, with these arrays to note first uses and so many bytes of output
+pub record Writable (b : Bytes) (firsts offsets order : List ℕ) (size : ℕ) : Type 0 where
+  pub lent : Lent b firsts offsets order
   pub small : length (concat (strings b (word16 b 2))) ≤ 65535
   pub fits : 6 + 12 * length (entries b (word16 b 2)) + length (concat (strings b (word16 b 2))) ≤ size
 

@@ -1,6 +1,7 @@
 // name: the kept records with new offsets, their strings stored once each, at the first use (document 01, step 7: refusals 3, 4, 5).
 // measure tests everything and says how long the new table is; write writes it into its own part of the output.
-// Both note the rows of the first uses in an array of their own, so that a string is compared with first uses only.
+// Both note the first uses in arrays of their own: rows and new offsets in order of use, and their numbers in the order of their strings,
+// so that a string is found by halving, whatever the font.
 ghost use mathlib.Core.Path.{_≡_};
 ghost use mathlib.Core.Bool.{true};
 ghost use mathlib.Core.List.{[], map};
@@ -11,7 +12,7 @@ ghost use Rattle.model.specs.Res.{both, either, mapRes, isOk, valueOf};
 ghost use Rattle.model.specs.Bytes.{word16, put, over, concat};
 ghost use Rattle.model.specs.Name.{offsetOf, nameEntries, newName, cutName};
 ghost use Rattle.answer.specs.Answers.{sizeOf};
-ghost use Rattle.name.specs.Rows.{countedOf, keptAt, insideAt, stringStart, stringLength, stringAt, tested, entries, strings, searchFrom, distinctBytes, newRecord, newTable, Inside, Searchable, Tested, Uses, Roomy, Notable, Writable, Recorded};
+ghost use Rattle.name.specs.Rows.{countedOf, keptAt, insideAt, stringStart, stringLength, stringAt, tested, entries, strings, eightAt, distinctBytes, newRecord, newTable, Inside, Alike, Searchable, Sought, Inserted, Tested, Uses, Roomy, Lent, Notable, Writable, Recorded};
 
 // How many records are kept, or the refusal.
 enum Counted {
@@ -19,10 +20,10 @@ enum Counted {
     No(u32),
 }
 
-// The offset of an equal string that is stored already.
+// The number of the first use that has an equal string, or the place of a new string in the order.
 enum Found {
     At(usize),
-    Nowhere,
+    Nowhere(usize),
 }
 
 // One more string was noted: the first uses and their bytes so far, and the string's offset.
@@ -66,11 +67,15 @@ pub fn write(name: &[u8], out: &mut [u8])
     }
     if read::u16_at(name, 2) <= 256 {
         let mut firsts = [0u16; 256];
-        write_kept(name, out, &mut firsts);
+        let mut offsets = [0u16; 256];
+        let mut order = [0u16; 256];
+        write_kept(name, out, &mut firsts, &mut offsets, &mut order);
         return;
     }
     let mut firsts = [0u16; 5460];
-    write_kept(name, out, &mut firsts);
+    let mut offsets = [0u16; 5460];
+    let mut order = [0u16; 5460];
+    write_kept(name, out, &mut firsts, &mut offsets, &mut order);
 }
 
 // "header, records, storage start must be there (3)", then every range (4).
@@ -124,22 +129,26 @@ fn measure_kept(name: &[u8], n: usize) -> answer::Size
     }
 }
 
-// Room for the rows of first uses, which is cleared first: little for the usual table, else for as many records as may be kept.
+// Room for the first uses, which is cleared first: little for the usual table, else for as many records as may be kept.
 fn distinct_bytes(name: &[u8]) -> answer::Size
     requires { ⌜ Roomy (now name) 5460 ⌝ }
     ensures { λ r. ⌜ sizeOf r ≡ distinctBytes (now (name .entry)) ⌝ }
 {
     if read::u16_at(name, 2) <= 256 {
         let mut firsts = [0u16; 256];
-        return distinct(name, &mut firsts);
+        let mut offsets = [0u16; 256];
+        let mut order = [0u16; 256];
+        return distinct(name, &mut firsts, &mut offsets, &mut order);
     }
     let mut firsts = [0u16; 5460];
-    distinct(name, &mut firsts)
+    let mut offsets = [0u16; 5460];
+    let mut order = [0u16; 5460];
+    distinct(name, &mut firsts, &mut offsets, &mut order)
 }
 
 // The bytes of all distinct strings: 5 as soon as they pass 65,535.
-fn distinct(name: &[u8], firsts: &mut [u16]) -> answer::Size
-    requires { ⌜ Roomy (now name) (length (now firsts)) ⌝ }
+fn distinct(name: &[u8], firsts: &mut [u16], offsets: &mut [u16], order: &mut [u16]) -> answer::Size
+    requires { ⌜ Lent (now name) (now firsts) (now offsets) (now order) ⌝ }
     ensures { λ r. ⌜ sizeOf r ≡ distinctBytes (now (name .entry)) ⌝ }
 {
     let count = read::u16_at(name, 2) as usize;
@@ -148,7 +157,7 @@ fn distinct(name: &[u8], firsts: &mut [u16]) -> answer::Size
     let mut i = 0;
     while i < count {
         if kept(name, i) {
-            let noted = note(name, firsts, used, end, i);
+            let noted = note(name, firsts, offsets, order, used, end, i);
             used = noted.used;
             end = noted.end;
             if 65535 < end {
@@ -161,19 +170,29 @@ fn distinct(name: &[u8], firsts: &mut [u16]) -> answer::Size
 }
 
 // A kept row's string: at an earlier one's offset, or a first use, behind all others.
-fn note(name: &[u8], firsts: &mut [u16], used: usize, end: usize, row: usize) -> Noted
-    requires { ⌜ Notable (now name) row (now firsts) used end ⌝ }
-    ensures { λ r. ⌜ Uses (now (name .entry)) (row + 1) (now (firsts .exit)) (r .used) (r .end) × (r .offset ≡ offsetOf (stringAt (now (name .entry)) row) (strings (now (name .entry)) (row + 1))) ⌝ }
+fn note(
+    name: &[u8],
+    firsts: &mut [u16],
+    offsets: &mut [u16],
+    order: &mut [u16],
+    used: usize,
+    end: usize,
+    row: usize,
+) -> Noted
+    requires { ⌜ Notable (now name) row (now firsts) (now offsets) (now order) used end ⌝ }
+    ensures { λ r. ⌜ Uses (now (name .entry)) (row + 1) (now (firsts .exit)) (now (offsets .exit)) (now (order .exit)) (r .used) (r .end) × (r .offset ≡ offsetOf (stringAt (now (name .entry)) row) (strings (now (name .entry)) (row + 1))) ⌝ }
 {
-    let found = find_earlier(name, &firsts[..used], row);
+    let found = find_earlier(name, &firsts[..], &order[..], used, row);
     match found {
-        Found::At(offset) => Noted {
+        Found::At(first) => Noted {
             used: used,
             end: end,
-            offset: offset,
+            offset: offsets[first] as usize,
         },
-        Found::Nowhere => {
+        Found::Nowhere(place) => {
             firsts[used] = row as u16;
+            offsets[used] = end as u16;
+            insert(order, used, place);
             Noted {
                 used: used + 1,
                 end: end + length_at(name, row),
@@ -183,48 +202,140 @@ fn note(name: &[u8], firsts: &mut [u16], used: usize, end: usize, row: usize) ->
     }
 }
 
-// The offset of the first use that equals the string of a row: "try the earlier ones and leave both loops on a match".
-// Lengths first. At most 5,460 first uses with 65,535 bytes in all, whatever the font: that bounds the work.
-fn find_earlier(name: &[u8], firsts: &[u16], row: usize) -> Found
-    requires { ⌜ Searchable (now name) (now firsts) row ⌝ }
-    ensures { λ r. ⌜ r ≡ searchFrom 0 (stringAt (now (name .entry)) row) (map (stringAt (now (name .entry))) (now (firsts .entry))) ⌝ }
+// The first use whose string is that of a row: "try the earlier ones and leave both loops on a match".
+// They stand in order, by length and then by bytes, so that each comparison leaves half: 13 at most, whatever the font.
+fn find_earlier(name: &[u8], firsts: &[u16], order: &[u16], used: usize, row: usize) -> Found
+    requires { ⌜ Searchable (now name) (now firsts) (now order) used row ⌝ }
+    ensures { λ r. ⌜ Sought (now (name .entry)) (now (firsts .entry)) (now (order .entry)) used row r ⌝ }
 {
     let start = start_at(name, row);
     let size = length_at(name, row);
-    let mut offset: usize = 0;
-    let mut j = 0;
-    'earlier: while j < firsts.len() {
-        let first = firsts[j] as usize;
+    let mut low = 0;
+    let mut high = used;
+    let mut middle = 0;
+    'earlier: while low < high {
+        middle = low + (high - low) / 2;
+        let first = firsts[order[middle] as usize] as usize;
         let length = length_at(name, first);
-        if length == size {
+        if length < size {
+            low = middle + 1;
+        } else if size < length {
+            high = middle;
+        } else {
             let at = start_at(name, first);
-            let mut k = 0;
+            let mut k = alike(name, at, start, size);
             loop {
                 if k == size {
                     break 'earlier;
                 }
-                if name[at + k] != name[start + k] {
+                if name[at + k] < name[start + k] {
+                    low = middle + 1;
+                    break;
+                }
+                if name[start + k] < name[at + k] {
+                    high = middle;
                     break;
                 }
                 k += 1;
             }
         }
-        offset += length;
-        j += 1;
     }
-    if j < firsts.len() {
-        Found::At(offset)
+    if low < high {
+        Found::At(order[middle] as usize)
     } else {
-        Found::Nowhere
+        Found::Nowhere(low)
     }
 }
 
+// How many bytes at two places are surely equal: all where the places are the same, as in fonts whose records share their strings,
+// else those of whole words of eight bytes up to the first that differs. A hostile font may hold long strings that differ late.
+fn alike(name: &[u8], at: usize, start: usize, size: usize) -> usize
+    requires { ⌜ (at + size ≤ length (now name)) × (start + size ≤ length (now name)) ⌝ }
+    ensures { λ r. ⌜ Alike (now (name .entry)) at start size r ⌝ }
+{
+    if at == start {
+        return size;
+    }
+    let mut k = alike_blocks(name, at, start, size);
+    while k + 8 <= size {
+        if eight_at(name, at + k) != eight_at(name, start + k) {
+            return k;
+        }
+        k += 8;
+    }
+    k
+}
+
+// The same while there are four words: four comparisons a turn take long strings at twice the speed.
+fn alike_blocks(name: &[u8], at: usize, start: usize, size: usize) -> usize
+    requires { ⌜ (at + size ≤ length (now name)) × (start + size ≤ length (now name)) ⌝ }
+    ensures { λ r. ⌜ Alike (now (name .entry)) at start size r ⌝ }
+{
+    let mut k = 0;
+    while k + 32 <= size {
+        if eight_at(name, at + k) != eight_at(name, start + k) {
+            return k;
+        }
+        if eight_at(name, at + k + 8) != eight_at(name, start + k + 8) {
+            return k + 8;
+        }
+        if eight_at(name, at + k + 16) != eight_at(name, start + k + 16) {
+            return k + 16;
+        }
+        if eight_at(name, at + k + 24) != eight_at(name, start + k + 24) {
+            return k + 24;
+        }
+        k += 32;
+    }
+    k
+}
+
+// Eight bytes as a number, the last the highest: LLVM makes one load of it.
+fn eight_at(b: &[u8], at: usize) -> u64
+    requires { ⌜ at + 8 ≤ length (now b) ⌝ }
+    ensures { λ r. ⌜ r ≡ eightAt (now (b .entry)) at ⌝ }
+{
+    wide(b[at])
+        + 0x100 * wide(b[at + 1])
+        + 0x1_0000 * wide(b[at + 2])
+        + 0x100_0000 * wide(b[at + 3])
+        + 0x1_0000_0000 * wide(b[at + 4])
+        + 0x100_0000_0000 * wide(b[at + 5])
+        + 0x1_0000_0000_0000 * wide(b[at + 6])
+        + 0x100_0000_0000_0000 * wide(b[at + 7])
+}
+
+fn wide(x: u8) -> u64
+    ensures { λ r. ⌜ (r ≡ x) × (r < 256) ⌝ }
+{
+    x as u64
+}
+
+// The number of a new first use is given a place in the order; those behind it move on by one, from the last. LLVM makes a vector copy of this loop.
+fn insert(order: &mut [u16], used: usize, place: usize)
+    requires { ⌜ (place ≤ used) × (used < length (now order)) × (used ≤ 65535) ⌝ }
+    ensures { λ _. ⌜ Inserted (now (order .entry)) (now (order .exit)) used place ⌝ }
+{
+    let mut k = used;
+    while place < k {
+        order[k] = order[k - 1];
+        k -= 1;
+    }
+    order[place] = used as u16;
+}
+
 // The header comes last: the count is known then.
-fn write_kept(name: &[u8], out: &mut [u8], firsts: &mut [u16])
-    requires { ⌜ Writable (now name) (length (now firsts)) (length (now out)) ⌝ }
+fn write_kept(
+    name: &[u8],
+    out: &mut [u8],
+    firsts: &mut [u16],
+    offsets: &mut [u16],
+    order: &mut [u16],
+)
+    requires { ⌜ Writable (now name) (now firsts) (now offsets) (now order) (length (now out)) ⌝ }
     ensures { λ _. ⌜ now (out .exit) ≡ over (newName (entries (now (name .entry)) (word16 (now (name .entry)) 2))) (now (out .entry)) ⌝ }
 {
-    let written = write_records(name, out, firsts);
+    let written = write_records(name, out, firsts, offsets, order);
     let used = written.used;
     let start = 6 + 12 * written.kept;
     write_strings(name, &firsts[..used], out, start);
@@ -234,8 +345,14 @@ fn write_kept(name: &[u8], out: &mut [u8], firsts: &mut [u16])
 }
 
 // "the records with new offsets", behind the header's six bytes.
-fn write_records(name: &[u8], out: &mut [u8], firsts: &mut [u16]) -> Written
-    requires { ⌜ Writable (now name) (length (now firsts)) (length (now out)) ⌝ }
+fn write_records(
+    name: &[u8],
+    out: &mut [u8],
+    firsts: &mut [u16],
+    offsets: &mut [u16],
+    order: &mut [u16],
+) -> Written
+    requires { ⌜ Writable (now name) (now firsts) (now offsets) (now order) (length (now out)) ⌝ }
     ensures { λ r. ⌜ Recorded (now (name .entry)) (now (firsts .exit)) (now (out .exit)) (now (out .entry)) (r .kept) (r .used) ⌝ }
 {
     let count = read::u16_at(name, 2) as usize;
@@ -245,7 +362,7 @@ fn write_records(name: &[u8], out: &mut [u8], firsts: &mut [u16]) -> Written
     let mut i = 0;
     while i < count {
         if kept(name, i) {
-            let noted = note(name, firsts, used, end, i);
+            let noted = note(name, firsts, offsets, order, used, end, i);
             put_record(name, i, noted.offset, out, 6 + 12 * n);
             n += 1;
             used = noted.used;

@@ -6,16 +6,16 @@ use native.Mathlib.Omega.{arith}
 use borrow.Author.Needs.{needs}
 use lib.ListN.{length}
 use Rattle.name.specs.Rows.{Uses}
-use Rattle.name.proofs.Strings.{uses-start, uses-skip, bytes-over, bytes-all}
+use Rattle.name.proofs.Strings.{uses-start, uses-skip, lent-rows, bytes-over, bytes-all}
 use Rattle.name.proofs.distinct.Statement.{statement}
 use Rattle.name.proofs.distinct.Tie as tie
 
 abbrev Inv-loop : tie.InvT-loop
-Inv-loop name firsts₀ count used₀ end₀ i₀ firsts used end i =
-    (i ≤ count) × (length firsts ≡ length firsts₀) × Uses name i firsts used end × (end ≤ 65535)
+Inv-loop name firsts₀ offsets₀ order₀ count used₀ end₀ i₀ firsts offsets order used end i =
+    (i ≤ count) × (length firsts ≡ length firsts₀) × (length offsets ≡ length offsets₀) × (length order ≡ length order₀) × Uses name i firsts offsets order used end × (end ≤ 65535)
 
 abbrev μ-loop : tie.MeasureT-loop
-μ-loop name firsts₀ count used₀ end₀ i₀ firsts used end i = count - i
+μ-loop name firsts₀ offsets₀ order₀ count used₀ end₀ i₀ firsts offsets order used end i = count - i
 
 u16-at-requires : tie.Need-u16-at-requires Inv-loop μ-loop
 u16-at-requires c κs = search needs
@@ -25,33 +25,39 @@ cast-count c = search needs
 
 loop-holds : tie.Need-loop-holds Inv-loop μ-loop
 loop-holds c =
-    let r = c .before .before .before in
-    (search needs, search needs, uses-start (r .args .name .now) (r .args .firsts .now), search needs)
+    let r = c .before .before .before .before .before in
+    (search needs, search needs, search needs, search needs, uses-start (r .args .name .now) (r .args .firsts .now) (r .args .offsets .now) (r .args .order .now), search needs)
 
 kept-requires : tie.Need-kept-requires Inv-loop μ-loop
 kept-requires c κs = search needs
 
 note-requires : tie.Need-note-requires Inv-loop μ-loop
 note-requires c κs =
-    let r = c .before .before .before .before .before .before .before .before in
-    let l = c .before .before .before .before .loop in
+    let r = c .before .before .before .before .before .before .before .before .before .before .before .before in
+    let l = c .before .before .before .before .before .before .loop in
     record {
-      room = record { tested = r .pre .tested; room = omega (arith, r .pre .room); few = r .pre .few };
+      lent = lent-rows (r .args .name .now) (l .firsts) (l .offsets) (l .order) (r .args .firsts .now) (r .args .offsets .now) (r .args .order .now) (r .pre) (l .inv .1) (l .inv .2) (l .inv .3);
       row = omega arith;
-      kept = sym (c .before .before .kept .ensures) ∙ c .before .if1 .taken;
-      uses = l .inv .2;
-      small = l .inv .3;
+      kept = sym (c .before .before .before .before .kept .ensures) ∙ c .before .before .before .if1 .taken;
+      uses = l .inv .4;
+      small = l .inv .5;
     }
 
 same-length : tie.Need-same-length Inv-loop μ-loop
 same-length c = search needs
 
+same-length-2 : tie.Need-same-length-2 Inv-loop μ-loop
+same-length-2 c = search needs
+
+same-length-3 : tie.Need-same-length-3 Inv-loop μ-loop
+same-length-3 c = search needs
+
 returns : tie.Need-returns Inv-loop μ-loop
 returns c =
-    let l = c .before .before .before .before .before .before .before .before .loop in
-    let r = c .before .before .before .before .before .before .before .before .before .before .before .before in
-    let n = c .before .before .before .note in
-    bytes-over (r .args .name .now) (l .i + 1) (n .result .end) (omega arith) (n .ensures .0 .bytes) (c .if2 .taken)
+    let r = c .before .before .before .before .before .before .before .before .before .before .before .before .before .before .before .before .before .before .before .before in
+    let l = c .before .before .before .before .before .before .before .before .before .before .before .before .before .before .loop in
+    let n = c .before .before .before .before .before .before .before .note in
+    bytes-over (r .args .name .now) (l .i + 1) (n .result .end) (omega (arith, c .before .before .before .before .before .before .before .before .before .before .before .before .before .loop-test .taken, c .before .before .before .before .before .before .before .before .before .before .before .before .before .before .before .u16-at .ensures)) (n .ensures .0 .bytes) (c .if2 .taken)
 
 add-i : tie.Need-add-i Inv-loop μ-loop
 add-i c = search needs
@@ -61,21 +67,34 @@ loop-less c = search needs
 
 loop-again : tie.Need-loop-again Inv-loop μ-loop
 loop-again c =
+    let r = c .before .before .before .before .before .before .before .before .before in
     let l = c .before .before .before .loop in
-    let r = c .before .before .before .before .before .before .before in
     ⊎-elim
-    (λ w. rw (w .6, w .7, w .8) (search needs, omega arith, w .2 .ensures .0, w .5 .left))
-    (λ w. rw (w .1, w .2, w .3) (search needs, l .inv .1, uses-skip (r .args .name .now) (l .firsts) (l .used) (l .end) (l .i) (sym (c .before .kept .ensures) ∙ w .0 .left) (l .inv .2), l .inv .3))
+    (λ w. rw (w .12, w .13, w .14, w .15, w .16) (search needs, omega arith, omega arith, omega arith, w .4 .ensures .0, w .11 .left))
+    (λ w. rw (w .1, w .2, w .3, w .4, w .5) (
+      search needs,
+      l .inv .1,
+      l .inv .2,
+      l .inv .3,
+      uses-skip (r .args .name .now) (l .firsts) (l .offsets) (l .order) (l .used) (l .end) (l .i) (sym (c .before .kept .ensures) ∙ w .0 .left) (l .inv .4),
+      l .inv .5,
+    ))
     (c .if1 .came)
 
-same-length-2 : tie.Need-same-length-2 Inv-loop μ-loop
-same-length-2 c = search needs
+same-length-4 : tie.Need-same-length-4 Inv-loop μ-loop
+same-length-4 c = search needs
+
+same-length-5 : tie.Need-same-length-5 Inv-loop μ-loop
+same-length-5 c = search needs
+
+same-length-6 : tie.Need-same-length-6 Inv-loop μ-loop
+same-length-6 c = search needs
 
 returns-2 : tie.Need-returns-2 Inv-loop μ-loop
 returns-2 c =
+    let r = c .before .before .before .before .before .before .before in
     let l = c .before .loop in
-    let r = c .before .before .before .before .before in
-    bytes-all (r .args .name .now) (l .i) (l .end) (omega arith) (l .inv .2 .bytes) (l .inv .3)
+    bytes-all (r .args .name .now) (l .i) (l .end) (omega arith) (l .inv .4 .bytes) (l .inv .5)
 
 pub distinct-spec : {M : Type 1} → statement M
 distinct-spec =
@@ -89,9 +108,13 @@ distinct-spec =
     kept-requires
     note-requires
     same-length
+    same-length-2
+    same-length-3
     returns
     add-i
     loop-less
     loop-again
-    same-length-2
+    same-length-4
+    same-length-5
+    same-length-6
     returns-2)

@@ -1,4 +1,5 @@
 -- Room for 256 rows is enough where there are no more.
+use mathlib.Core.Path.{refl}
 use native.Mathlib.Omega.{arith}
 use Rattle.name.proofs.Strings.{roomy-rows}
 use borrow.Author.Needs.{needs}
@@ -11,19 +12,33 @@ u16-at-requires c κs = search needs
 slice-aggregate-distinct : tie.Need-slice-aggregate-distinct
 slice-aggregate-distinct c = search needs
 
+slice-aggregate-distinct-2 : tie.Need-slice-aggregate-distinct-2
+slice-aggregate-distinct-2 c = search needs
+
+slice-aggregate-distinct-3 : tie.Need-slice-aggregate-distinct-3
+slice-aggregate-distinct-3 c = search needs
+
 distinct-requires : tie.Need-distinct-requires
 distinct-requires c κs =
-    let r = c .before .before .before .before in
-    roomy-rows (r .args .name .now) 5460 256 (r .pre) (omega arith)
+    let r = c .before .before .before .before .before .before in
+    record { room = roomy-rows (r .args .name .now) 5460 256 (r .pre) (omega arith); second = refl; third = refl }
 
 returns : tie.Need-returns
 returns c = search needs
 
-slice-aggregate-distinct-2 : tie.Need-slice-aggregate-distinct-2
-slice-aggregate-distinct-2 c = search needs
+slice-aggregate-distinct-4 : tie.Need-slice-aggregate-distinct-4
+slice-aggregate-distinct-4 c = search needs
+
+slice-aggregate-distinct-5 : tie.Need-slice-aggregate-distinct-5
+slice-aggregate-distinct-5 c = search needs
+
+slice-aggregate-distinct-6 : tie.Need-slice-aggregate-distinct-6
+slice-aggregate-distinct-6 c = search needs
 
 distinct-requires-2 : tie.Need-distinct-requires-2
-distinct-requires-2 c κs = search needs
+distinct-requires-2 c κs =
+    let r = c .before .before .before .before .before .before in
+    record { room = r .pre; second = refl; third = refl }
 
 returns-2 : tie.Need-returns-2
 returns-2 c = search needs
@@ -34,8 +49,12 @@ distinct-bytes-spec =
     (tie.spec
     u16-at-requires
     slice-aggregate-distinct
+    slice-aggregate-distinct-2
+    slice-aggregate-distinct-3
     distinct-requires
     returns
-    slice-aggregate-distinct-2
+    slice-aggregate-distinct-4
+    slice-aggregate-distinct-5
+    slice-aggregate-distinct-6
     distinct-requires-2
     returns-2)

@@ -1,89 +1,145 @@
--- A string that is found is stored already; one that is not found becomes the last of the first uses.
-use lib.Seq.{length-take-le}
-use mathlib.Core.Path.{sym}
+-- A string that is found is stored already, at the offset that was noted; one that is not found becomes the last of the first uses, and its number gets its place in the order.
+use mathlib.Core.Path.{refl}
 use native.Mathlib.Omega.{arith}
-use Rattle.name.proofs.Strings.{used-room, used-searchable, noted-old, noted-new}
+use lib.ListN.{getD}
+use Rattle.name.proofs.Strings.{used-few, used-room, used-searchable, noted-old, noted-new}
 use borrow.Author.Needs.{needs}
 use Rattle.name.proofs.note.Statement.{statement}
 use Rattle.name.proofs.note.Tie as tie
 
-slice-reshare-prefix-find-earlier : tie.Need-slice-reshare-prefix-find-earlier
-slice-reshare-prefix-find-earlier c = search needs
-
-slice-aggregate-find-earlier : tie.Need-slice-aggregate-find-earlier
-slice-aggregate-find-earlier c =
-    let r = c .before .before .before in
-    sym (length-take-le (r .args .used) (r .args .firsts .now) (r .pre .uses .room))
-
 find-earlier-requires : tie.Need-find-earlier-requires
 find-earlier-requires c κs =
-    let r = c .before .before .before in
-    used-searchable (r .args .name .now) (r .args .firsts .now) (r .args .used) (r .args .end) (r .args .row) (r .pre .room) (r .pre .row) (r .pre .kept) (r .pre .uses)
+    let r = c .before .before .before .before .before .before in
+    used-searchable (r .args .name .now) (r .args .firsts .now) (r .args .offsets .now) (r .args .order .now) (r .args .used) (r .args .end) (r .args .row) (r .pre)
 
 enum-known-found : tie.Need-enum-known-found
 enum-known-found c = search needs
 
-enum-told : tie.Need-enum-told
-enum-told c = search needs
+mul-t16 : tie.Need-mul-t16
+mul-t16 c =
+    let r = c .before .before .before .before .before .before .before .before .before .before in
+    let f = c .before .before .before .find-earlier in
+    let s = f .ensures .at (c .before .found .given .0 .0) (c .before .found .given .1) in
+    omega (arith, s .0, used-room (r .args .name .now) (r .args .firsts .now) (r .args .offsets .now) (r .args .order .now) (r .args .used) (r .args .end) (r .args .row) (r .pre), used-few (r .args .name .now) (r .args .firsts .now) (r .args .offsets .now) (r .args .order .now) (r .args .used) (r .args .end) (r .args .row) (r .pre), r .pre .lent .room .few)
+
+slice-read-t18 : tie.Need-slice-read-t18
+slice-read-t18 c =
+    let r = c .before .before .before .before .before .before .before .before .before .before .before in
+    let f = c .before .before .before .before .find-earlier in
+    let s = f .ensures .at (c .before .before .found .given .0 .0) (c .before .before .found .given .1) in
+    omega (arith, s .0, used-room (r .args .name .now) (r .args .firsts .now) (r .args .offsets .now) (r .args .order .now) (r .args .used) (r .args .end) (r .args .row) (r .pre), r .pre .lent .second)
+
+cast-t19 : tie.Need-cast-t19
+cast-t19 c =
+    let r = c .before .before .before .before .before .before .before .before .before .before .before in
+    omega (arith, c .slice-known4 .given (c .before .before .found .given .0 .0))
+
+enum-known-found-2 : tie.Need-enum-known-found-2
+enum-known-found-2 c = search needs
 
 cast-firsts : tie.Need-cast-firsts
 cast-firsts c =
-    let k = c .before .before .before .before .before .shared-slice-known in
+    let k = c .before .before .before .before .before .before .before .before .before .shared-slice-known in
     omega (arith, k .given 2, k .given 3)
 
 mul-firsts : tie.Need-mul-firsts
-mul-firsts c = search needs
+mul-firsts c =
+    let r = c .before .before .before .before .before .before .before .before .before .before in
+    omega (arith, used-few (r .args .name .now) (r .args .firsts .now) (r .args .offsets .now) (r .args .order .now) (r .args .used) (r .args .end) (r .args .row) (r .pre), r .pre .lent .room .few)
 
 slice-write-firsts : tie.Need-slice-write-firsts
 slice-write-firsts c =
-    let r = c .before .before .before .before .before .before in
-    used-room (r .args .name .now) (r .args .firsts .now) (r .args .used) (r .args .end) (r .args .row) (r .pre .room) (r .pre .row) (r .pre .kept) (r .pre .uses)
+    let r = c .before .before .before .before .before .before .before .before .before .before in
+    used-room (r .args .name .now) (r .args .firsts .now) (r .args .offsets .now) (r .args .order .now) (r .args .used) (r .args .end) (r .args .row) (r .pre)
 
-add-t12 : tie.Need-add-t12
-add-t12 c = search needs
+cast-offsets : tie.Need-cast-offsets
+cast-offsets c =
+    let r = c .before .before .before .before .before .before .before .before .before .before in
+    omega (arith, r .pre .small)
+
+mul-offsets : tie.Need-mul-offsets
+mul-offsets c =
+    let r = c .before .before .before .before .before .before .before .before .before .before in
+    omega (arith, used-few (r .args .name .now) (r .args .firsts .now) (r .args .offsets .now) (r .args .order .now) (r .args .used) (r .args .end) (r .args .row) (r .pre), r .pre .lent .room .few)
+
+slice-write-offsets : tie.Need-slice-write-offsets
+slice-write-offsets c =
+    let r = c .before .before .before .before .before .before .before .before .before .before in
+    omega (arith, used-room (r .args .name .now) (r .args .firsts .now) (r .args .offsets .now) (r .args .order .now) (r .args .used) (r .args .end) (r .args .row) (r .pre), r .pre .lent .second)
+
+insert-requires : tie.Need-insert-requires
+insert-requires c κs =
+    let r = c .before .before .before .before .before .before .before .before .before .before .before in
+    let f = c .before .before .before .before .find-earlier in
+    let s = f .ensures .nowhere (c .before .before .found2 .given .0 .0) (c .before .before .found2 .given .1) in
+    (s .within, omega (arith, used-room (r .args .name .now) (r .args .firsts .now) (r .args .offsets .now) (r .args .order .now) (r .args .used) (r .args .end) (r .args .row) (r .pre), r .pre .lent .third), omega (arith, used-few (r .args .name .now) (r .args .firsts .now) (r .args .offsets .now) (r .args .order .now) (r .args .used) (r .args .end) (r .args .row) (r .pre), r .pre .lent .room .few))
+
+add-t21 : tie.Need-add-t21
+add-t21 c =
+    let r = c .before .before .before .before .before .before .before .before .before .before .before .before .before .before in
+    omega (arith, used-few (r .args .name .now) (r .args .firsts .now) (r .args .offsets .now) (r .args .order .now) (r .args .used) (r .args .end) (r .args .row) (r .pre), r .pre .lent .room .few)
 
 length-at-requires : tie.Need-length-at-requires
 length-at-requires c κs = search needs
 
-add-t15 : tie.Need-add-t15
-add-t15 c = omega arith
+add-t28 : tie.Need-add-t28
+add-t28 c =
+    let r = c .before .before .before .before .before .before .before .before .before .before .before .before .before .before .before in
+    omega (arith, r .pre .small)
 
 same-length : tie.Need-same-length
 same-length c = search needs
 
-returns : tie.Need-returns
-returns c =
-    let r = c .before .before .before .before .before .before .before in
-    let f = c .before .before .before .find-earlier in
-    noted-old (r .args .name .now) (r .args .firsts .now) (r .args .used) (r .args .end) (r .args .row) (r .pre .room) (r .pre .row) (r .pre .kept) (r .pre .uses)
-    (f .result) (f .ensures) _ (cc)
-
 same-length-2 : tie.Need-same-length-2
 same-length-2 c = search needs
 
+returns : tie.Need-returns
+returns c =
+    let r = c .before .before .before .before .before .before .before .before .before .before .before in
+    let f = c .before .before .before .before .find-earlier in
+    let s = f .ensures .at (c .before .before .found .given .0 .0) (c .before .before .found .given .1) in
+    noted-old (r .args .name .now) (r .args .firsts .now) (r .args .offsets .now) (r .args .order .now) (r .args .used) (r .args .end) (r .args .row) (r .pre) (c .before .before .found .given .0 .0) (getD (r .args .offsets .now) (c .before .before .found .given .0 .0) 0) (s .0) (s .1) refl
+
+same-length-3 : tie.Need-same-length-3
+same-length-3 c = search needs
+
+same-length-4 : tie.Need-same-length-4
+same-length-4 c = search needs
+
+same-length-5 : tie.Need-same-length-5
+same-length-5 c = search needs
+
 returns-2 : tie.Need-returns-2
 returns-2 c =
-    let r = c .before .before .before .before .before .before .before in
-    let f = c .before .before .before .find-earlier in
-    noted-new (r .args .name .now) (r .args .firsts .now) (r .args .used) (r .args .end) (r .args .row) (r .pre .room) (r .pre .row) (r .pre .kept) (r .pre .uses)
-    (f .result) (f .ensures) (c .length-at .result) (c .before .enum-told .given .1) (c .length-at .ensures .0)
+    let r = c .before .before .before .before .before .before .before .before .before .before .before .before .before .before .before in
+    let f = c .before .before .before .before .before .before .before .before .find-earlier in
+    let s = f .ensures .nowhere (c .before .before .before .before .before .before .found2 .given .0 .0) (c .before .before .before .before .before .before .found2 .given .1) in
+    noted-new (r .args .name .now) (r .args .firsts .now) (r .args .offsets .now) (r .args .order .now) (r .args .used) (r .args .end) (r .args .row) (r .pre) _ (c .before .before .before .before .before .before .found2 .given .0 .0) s (c .length-at .result) (c .length-at .ensures .0) (c .before .before .before .insert .ensures)
 
 pub note-spec : {M : Type 1} → statement M
 note-spec =
     tie.close
     (tie.spec
-    slice-reshare-prefix-find-earlier
-    slice-aggregate-find-earlier
     find-earlier-requires
     enum-known-found
-    enum-told
+    mul-t16
+    slice-read-t18
+    cast-t19
+    enum-known-found-2
     cast-firsts
     mul-firsts
     slice-write-firsts
-    add-t12
+    cast-offsets
+    mul-offsets
+    slice-write-offsets
+    insert-requires
+    add-t21
     length-at-requires
-    add-t15
+    add-t28
     same-length
-    returns
     same-length-2
+    returns
+    same-length-3
+    same-length-4
+    same-length-5
     returns-2)

@@ -1,5 +1,5 @@
 -- What may be written is a table of another version, or one whose rows, count and strings passed their tests.
-use mathlib.Core.Path.{sym, ap, _∙_}
+use mathlib.Core.Path.{refl, sym, ap, _∙_}
 use native.Mathlib.Omega.{arith}
 use lib.ListN.{length}
 use Rattle.model.specs.Bytes.{Bytes, over}
@@ -39,12 +39,18 @@ u16-at-requires-2 c κs =
 slice-aggregate-write-kept : tie.Need-slice-aggregate-write-kept
 slice-aggregate-write-kept c = search needs
 
+slice-aggregate-write-kept-2 : tie.Need-slice-aggregate-write-kept-2
+slice-aggregate-write-kept-2 c = search needs
+
+slice-aggregate-write-kept-3 : tie.Need-slice-aggregate-write-kept-3
+slice-aggregate-write-kept-3 c = search needs
+
 write-kept-requires : tie.Need-write-kept-requires
 write-kept-requires c κs =
-    let r = c .before .before .before .before .before .before .before .before in
-    let z = ok-zero (r .args .name .now) (r .pre .0) (sym (c .before .before .before .before .before .u16-at .ensures) ∙ c .before .before .before .before .if1 .left) in
+    let r = c .before .before .before .before .before .before .before .before .before .before in
+    let z = ok-zero (r .args .name .now) (r .pre .0) (sym (c .before .before .before .before .before .before .before .u16-at .ensures) ∙ c .before .before .before .before .before .before .if1 .left) in
     record {
-      room = roomy-rows (r .args .name .now) 5460 256 (z .room) (omega arith);
+      lent = record { room = roomy-rows (r .args .name .now) 5460 256 (z .room) (omega (arith, c .before .before .before .before .if2 .taken, c .before .before .before .before .before .u16-at2 .ensures)); second = refl; third = refl };
       small = z .small;
       fits = omega (arith, length-table (r .args .name .now) (z .room .tested), ap length (z .value), r .pre .1);
     }
@@ -54,19 +60,25 @@ same-length-2 c = search needs
 
 returns-2 : tie.Need-returns-2
 returns-2 c =
-    let r = c .before .before .before .before .before .before .before .before .before .before .before .before in
-    let z = ok-zero (r .args .name .now) (r .pre .0) (sym (c .before .before .before .before .before .before .before .before .before .u16-at .ensures) ∙ c .before .before .before .before .before .before .before .before .if1 .left) in
-    c .before .before .before .write-kept .ensures ∙ ap (λ (x : Bytes). over x (r .args .out .now)) (sym (z .value))
+    let r = c .before .before .before .before .before .before .before .before .before .before .before .before .before .before .before .before in
+    let z = ok-zero (r .args .name .now) (r .pre .0) (sym (c .before .before .before .before .before .before .before .before .before .before .before .before .before .u16-at .ensures) ∙ c .before .before .before .before .before .before .before .before .before .before .before .before .if1 .left) in
+    c .before .before .before .before .before .write-kept .ensures ∙ ap (λ (x : Bytes). over x (r .args .out .now)) (sym (z .value))
 
-slice-aggregate-write-kept-2 : tie.Need-slice-aggregate-write-kept-2
-slice-aggregate-write-kept-2 c = search needs
+slice-aggregate-write-kept-4 : tie.Need-slice-aggregate-write-kept-4
+slice-aggregate-write-kept-4 c = search needs
+
+slice-aggregate-write-kept-5 : tie.Need-slice-aggregate-write-kept-5
+slice-aggregate-write-kept-5 c = search needs
+
+slice-aggregate-write-kept-6 : tie.Need-slice-aggregate-write-kept-6
+slice-aggregate-write-kept-6 c = search needs
 
 write-kept-requires-2 : tie.Need-write-kept-requires-2
 write-kept-requires-2 c κs =
-    let r = c .before .before .before .before .before .before .before .before in
-    let z = ok-zero (r .args .name .now) (r .pre .0) (sym (c .before .before .before .before .before .u16-at .ensures) ∙ c .before .before .before .before .if1 .left) in
+    let r = c .before .before .before .before .before .before .before .before .before .before in
+    let z = ok-zero (r .args .name .now) (r .pre .0) (sym (c .before .before .before .before .before .before .before .u16-at .ensures) ∙ c .before .before .before .before .before .before .if1 .left) in
     record {
-      room = z .room;
+      lent = record { room = z .room; second = refl; third = refl };
       small = z .small;
       fits = omega (arith, length-table (r .args .name .now) (z .room .tested), ap length (z .value), r .pre .1);
     }
@@ -76,9 +88,9 @@ same-length-3 c = search needs
 
 returns-3 : tie.Need-returns-3
 returns-3 c =
-    let r = c .before .before .before .before .before .before .before .before .before .before .before .before in
-    let z = ok-zero (r .args .name .now) (r .pre .0) (sym (c .before .before .before .before .before .before .before .before .before .u16-at .ensures) ∙ c .before .before .before .before .before .before .before .before .if1 .left) in
-    c .before .before .before .write-kept2 .ensures ∙ ap (λ (x : Bytes). over x (r .args .out .now)) (sym (z .value))
+    let r = c .before .before .before .before .before .before .before .before .before .before .before .before .before .before .before .before in
+    let z = ok-zero (r .args .name .now) (r .pre .0) (sym (c .before .before .before .before .before .before .before .before .before .before .before .before .before .u16-at .ensures) ∙ c .before .before .before .before .before .before .before .before .before .before .before .before .if1 .left) in
+    c .before .before .before .before .before .write-kept2 .ensures ∙ ap (λ (x : Bytes). over x (r .args .out .now)) (sym (z .value))
 
 pub write-spec : {M : Type 1} → statement M
 write-spec =
@@ -90,10 +102,14 @@ write-spec =
     returns
     u16-at-requires-2
     slice-aggregate-write-kept
+    slice-aggregate-write-kept-2
+    slice-aggregate-write-kept-3
     write-kept-requires
     same-length-2
     returns-2
-    slice-aggregate-write-kept-2
+    slice-aggregate-write-kept-4
+    slice-aggregate-write-kept-5
+    slice-aggregate-write-kept-6
     write-kept-requires-2
     same-length-3
     returns-3)

@@ -1,25 +1,25 @@
 -- After i rows their records are written, and their first uses noted.
 use mathlib.Core.Path.{_≡_, sym, ap, _∙_}
 use mathlib.Core.Logic.{⊎-elim}
-use Prim.Native.Nat.{_-_, _≤_}
+use Prim.Native.Nat.{_-_, _≤_, _<_}
 use native.Mathlib.Omega.{arith}
 use borrow.Author.Needs.{needs}
 use lib.ListN.{length}
 use Rattle.model.specs.Bytes.{word16, put}
 use Rattle.name.specs.Rows.{entries, newRecords, Uses}
 use Rattle.name.proofs.Rows.{entries-skip}
-use Rattle.name.proofs.Strings.{length-entries, entries-before, bytes-grow, uses-start, uses-skip, offset-small}
+use Rattle.name.proofs.Strings.{length-entries, entries-before, bytes-grow, uses-start, uses-skip, lent-rows, offset-small}
 use Rattle.name.proofs.Table.{records-none, records-skip, entries-none, entries-next, record-next}
 use Rattle.name.proofs.write_records.Statement.{statement}
 use Rattle.name.proofs.write_records.Tie as tie
 
 abbrev Inv-loop : tie.InvT-loop
-Inv-loop name out₀ firsts₀ count n₀ used₀ end₀ i₀ out firsts n used end i =
-    (i ≤ count) × (length out ≡ length out₀) × (length firsts ≡ length firsts₀) × Uses name i firsts used end × (n ≡ length (entries name i))
-    × (out ≡ put out₀ 6 (newRecords name i))
+Inv-loop name out₀ firsts₀ offsets₀ order₀ count n₀ used₀ end₀ i₀ out firsts offsets order n used end i =
+    (i ≤ count) × (length out ≡ length out₀) × (length firsts ≡ length firsts₀) × (length offsets ≡ length offsets₀) × (length order ≡ length order₀)
+    × Uses name i firsts offsets order used end × (n ≡ length (entries name i)) × (out ≡ put out₀ 6 (newRecords name i))
 
 abbrev μ-loop : tie.MeasureT-loop
-μ-loop name out₀ firsts₀ count n₀ used₀ end₀ i₀ out firsts n used end i = count - i
+μ-loop name out₀ firsts₀ offsets₀ order₀ count n₀ used₀ end₀ i₀ out firsts offsets order n used end i = count - i
 
 u16-at-requires : tie.Need-u16-at-requires Inv-loop μ-loop
 u16-at-requires c κs = search needs
@@ -29,52 +29,61 @@ cast-count c = search needs
 
 loop-holds : tie.Need-loop-holds Inv-loop μ-loop
 loop-holds c =
-    let r = c .before .before .before .before in
-    (search needs, search needs, search needs, uses-start (r .args .name .now) (r .args .firsts .now), entries-none (r .args .name .now), records-none (r .args .name .now) (r .args .out .now))
+    let r = c .before .before .before .before .before .before in (
+      search needs,
+      search needs,
+      search needs,
+      search needs,
+      search needs,
+      uses-start (r .args .name .now) (r .args .firsts .now) (r .args .offsets .now) (r .args .order .now),
+      entries-none (r .args .name .now),
+      records-none (r .args .name .now) (r .args .out .now),
+    )
 
 kept-requires : tie.Need-kept-requires Inv-loop μ-loop
 kept-requires c κs = search needs
 
 note-requires : tie.Need-note-requires Inv-loop μ-loop
 note-requires c κs =
-    let r = c .before .before .before .before .before .before .before .before .before in
-    let l = c .before .before .before .before .loop in
+    let r = c .before .before .before .before .before .before .before .before .before .before .before .before .before in
+    let l = c .before .before .before .before .before .before .loop in
     record {
-      room = record { tested = r .pre .room .tested; room = omega (arith, r .pre .room .room); few = r .pre .room .few };
+      lent = lent-rows (r .args .name .now) (l .firsts) (l .offsets) (l .order) (r .args .firsts .now) (r .args .offsets .now) (r .args .order .now) (r .pre .lent) (l .inv .2) (l .inv .3) (l .inv .4);
       row = omega arith;
-      kept = sym (c .before .before .kept .ensures) ∙ c .before .if1 .taken;
-      uses = l .inv .3;
-      small = omega (arith, l .inv .3 .bytes, r .pre .small, bytes-grow (r .args .name .now) (l .i) (word16 (r .args .name .now) 2) (omega arith));
+      kept = sym (c .before .before .before .before .kept .ensures) ∙ c .before .before .before .if1 .taken;
+      uses = l .inv .5;
+      small = omega (arith, l .inv .5 .bytes, r .pre .small, bytes-grow (r .args .name .now) (l .i) (word16 (r .args .name .now) 2) (omega arith));
     }
 
 mul-put-record : tie.Need-mul-put-record Inv-loop μ-loop
 mul-put-record c =
-    let l = c .before .before .before .before .before .before .before .before .loop in
-    let r = c .before .before .before .before .before .before .before .before .before .before .before .before .before in
-    omega (arith, length-entries (r .args .name .now) (l .i))
+    let r = c .before .before .before .before .before .before .before .before .before .before .before .before .before .before .before .before .before .before .before .before .before in
+    let l = c .before .before .before .before .before .before .before .before .before .before .before .before .before .before .loop in
+    omega (arith, length-entries (r .args .name .now) (l .i), l .inv .6, c .before .before .before .before .before .before .before .before .before .before .before .before .before .loop-test .taken, c .before .before .before .before .before .before .before .before .before .before .before .before .before .before .before .u16-at .ensures)
 
 add-put-record : tie.Need-add-put-record Inv-loop μ-loop
 add-put-record c =
-    let l = c .before .before .before .before .before .before .before .before .loop in
-    let r = c .before .before .before .before .before .before .before .before .before .before .before .before .before in
-    omega (arith, length-entries (r .args .name .now) (l .i))
+    let r = c .before .before .before .before .before .before .before .before .before .before .before .before .before .before .before .before .before .before .before .before .before in
+    let l = c .before .before .before .before .before .before .before .before .before .before .before .before .before .before .loop in
+    omega (arith, length-entries (r .args .name .now) (l .i), l .inv .6, c .before .before .before .before .before .before .before .before .before .before .before .before .before .loop-test .taken, c .before .before .before .before .before .before .before .before .before .before .before .before .before .before .before .u16-at .ensures)
 
 put-record-requires : tie.Need-put-record-requires Inv-loop μ-loop
 put-record-requires c κs =
-    let l = c .before .before .before .before .before .before .before .before .loop in
-    let r = c .before .before .before .before .before .before .before .before .before .before .before .before .before in
-    let n = c .before .before .before .note in
-    let k = sym (c .before .before .before .before .before .before .kept .ensures) ∙ c .before .before .before .before .before .if1 .taken in (
-      omega (arith, r .pre .room .tested .inside (l .i) (omega arith) k .row),
-      rw (n .ensures .1) (offset-small (r .args .name .now) (l .i) (word16 (r .args .name .now) 2) (omega arith) k (r .pre .small)),
-      omega (arith, entries-before (r .args .name .now) (l .i) (word16 (r .args .name .now) 2) (omega arith) k, r .pre .fits),
+    let r = c .before .before .before .before .before .before .before .before .before .before .before .before .before .before .before .before .before .before .before .before .before in
+    let l = c .before .before .before .before .before .before .before .before .before .before .before .before .before .before .loop in
+    let n = c .before .before .before .before .before .before .before .note in
+    let k = sym (c .before .before .before .before .before .before .before .before .before .before .before .before .kept .ensures) ∙ c .before .before .before .before .before .before .before .before .before .before .before .if1 .taken in
+    let i : l .i < word16 (r .args .name .now) 2 = omega (arith, c .before .before .before .before .before .before .before .before .before .before .before .before .before .loop-test .taken, c .before .before .before .before .before .before .before .before .before .before .before .before .before .before .before .u16-at .ensures) in (
+      omega (arith, r .pre .lent .room .tested .inside (l .i) i k .row),
+      rw (n .ensures .1) (offset-small (r .args .name .now) (l .i) (word16 (r .args .name .now) 2) i k (r .pre .small)),
+      omega (arith, entries-before (r .args .name .now) (l .i) (word16 (r .args .name .now) 2) i k, r .pre .fits, l .inv .6, l .inv .1),
     )
 
 add-n : tie.Need-add-n Inv-loop μ-loop
 add-n c =
-    let l = c .before .before .before .before .before .before .before .before .before .before .before .loop in
-    let r = c .before .before .before .before .before .before .before .before .before .before .before .before .before .before .before .before in
-    omega (arith, length-entries (r .args .name .now) (l .i))
+    let r = c .before .before .before .before .before .before .before .before .before .before .before .before .before .before .before .before .before .before .before .before .before .before .before .before in
+    let l = c .before .before .before .before .before .before .before .before .before .before .before .before .before .before .before .before .before .loop in
+    omega (arith, length-entries (r .args .name .now) (l .i), l .inv .6, c .before .before .before .before .before .before .before .before .before .before .before .before .before .before .before .before .loop-test .taken, c .before .before .before .before .before .before .before .before .before .before .before .before .before .before .before .before .before .before .u16-at .ensures)
 
 add-i : tie.Need-add-i Inv-loop μ-loop
 add-i c = search needs
@@ -84,28 +93,32 @@ loop-less c = search needs
 
 loop-again : tie.Need-loop-again Inv-loop μ-loop
 loop-again c =
+    let r = c .before .before .before .before .before .before .before .before .before .before in
     let l = c .before .before .before .loop in
-    let r = c .before .before .before .before .before .before .before .before in
     ⊎-elim
     (λ w.
     let k = sym (c .before .kept .ensures) ∙ w .0 .taken in
-    rw (w .9, w .10, w .11, w .12, w .13) (
+    rw (w .15, w .16, w .17, w .18, w .19, w .20, w .21) (
       search needs,
       omega arith,
       omega arith,
-      w .2 .ensures .0,
-      entries-next (r .args .name .now) (l .i) (l .n) k (l .inv .4),
-      w .6 .ensures ∙ record-next (r .args .name .now) (r .pre .room .tested) (r .args .out .now) (l .out) (l .i) (l .n) (w .2 .result .offset) (omega (arith, r .pre .fits)) (omega arith) k (w .2 .ensures .1) (l .inv .4) (l .inv .5),
+      omega arith,
+      omega arith,
+      w .4 .ensures .0,
+      entries-next (r .args .name .now) (l .i) (l .n) k (l .inv .6),
+      w .12 .ensures ∙ record-next (r .args .name .now) (r .pre .lent .room .tested) (r .args .out .now) (l .out) (l .i) (l .n) (w .4 .result .offset) (omega (arith, r .pre .fits)) (omega arith) k (w .4 .ensures .1) (l .inv .6) (l .inv .7),
     ))
     (λ w.
     let k = sym (c .before .kept .ensures) ∙ w .0 .left in
-    rw (w .1, w .2, w .3, w .4, w .5) (
+    rw (w .1, w .2, w .3, w .4, w .5, w .6, w .7) (
       search needs,
       l .inv .1,
       l .inv .2,
-      uses-skip (r .args .name .now) (l .firsts) (l .used) (l .end) (l .i) k (l .inv .3),
-      l .inv .4 ∙ ap length (sym (entries-skip (r .args .name .now) (l .i) k)),
-      l .inv .5 ∙ ap (put (r .args .out .now) 6) (sym (records-skip (r .args .name .now) (l .i) k)),
+      l .inv .3,
+      l .inv .4,
+      uses-skip (r .args .name .now) (l .firsts) (l .offsets) (l .order) (l .used) (l .end) (l .i) k (l .inv .5),
+      l .inv .6 ∙ ap length (sym (entries-skip (r .args .name .now) (l .i) k)),
+      l .inv .7 ∙ ap (put (r .args .out .now) 6) (sym (records-skip (r .args .name .now) (l .i) k)),
     ))
     (c .if1 .came)
 
@@ -115,12 +128,18 @@ same-length c = search needs
 same-length-2 : tie.Need-same-length-2 Inv-loop μ-loop
 same-length-2 c = search needs
 
+same-length-3 : tie.Need-same-length-3 Inv-loop μ-loop
+same-length-3 c = search needs
+
+same-length-4 : tie.Need-same-length-4 Inv-loop μ-loop
+same-length-4 c = search needs
+
 returns : tie.Need-returns Inv-loop μ-loop
 returns c =
+    let r = c .before .before .before .before .before .before .before .before in
     let l = c .before .loop in
-    let r = c .before .before .before .before .before .before in
     let e : word16 (r .args .name .now) 2 ≡ l .i = omega arith in
-    record { records = rw e (l .inv .5); count = rw e (l .inv .4); rows = rw e (l .inv .3 .rows); room = l .inv .3 .room }
+    record { records = rw e (l .inv .7); count = rw e (l .inv .6); rows = rw e (l .inv .5 .rows); room = l .inv .5 .room }
 
 pub write-records-spec : {M : Type 1} → statement M
 write-records-spec =
@@ -142,4 +161,6 @@ write-records-spec =
     loop-again
     same-length
     same-length-2
+    same-length-3
+    same-length-4
     returns)
