@@ -9,7 +9,7 @@ use native.Mathlib.Nat.{div-add-mod', mod-lt, div-lt-iff-lt-mul, div-mul-le-self
 use lib.ListN.{length, getD, set, length-set}
 use lib.Seq.{getD-set-same, getD-set-other}
 use Rattle.model.specs.Bytes.{Bytes, word16}
-use Rattle.post.specs.Post.{walked, Stands, placeIn, withPlace, Index}
+use Rattle.post.specs.Post.{walked, Stands, placeIn, withPlace, Strided, Index}
 use Rattle.model.proofs.Members.{by}
 use Rattle.post.proofs.Walk.{stands-first, stands-walked, walked-inside}
 
@@ -96,16 +96,19 @@ fill-end b s last room₀ room p f h k =
     let c : getD (set (set room 0 s) 1 last) 1 0 ≡ last =
     getD-set-same (set room 0 s) 1 last 0 (omega (arith, f .same-length)) in
     record {
-      stride = rw a h;
-      inside = rw c (simp length-set (omega (arith, f .same-length)));
-      places = λ j q r. rw a (rw (place-behind room s last j q) (f .held j q (omega arith)));
+      some = simp length-set (omega (arith, f .same-length));
+      strided = λ z. record {
+        inside = rw c (simp length-set (omega (arith, f .same-length)));
+        places = λ j q r. rw a (rw (place-behind room s last j q) (f .held j q (omega arith)));
+      };
+      chained = λ z. absurd (omega arith);
     }
 
 pub last-fits : (w len : ℕ) → 2 ≤ len → 2 * (w / (w / (len / 2) + 1)) + 1 < len
 last-fits w len h = let a = stride-enough w (len / 2) (omega arith) in omega arith
 
 -- name k is as far behind the held place j as its number is behind that one's
-pub index-walk : (b : Bytes) (room : List ℕ) (k s j : ℕ) → Index b room → s ≡ getD room 0 0 → j ≤ getD room 1 0 → 0 < j → j * s ≤ k
+pub index-walk : (b : Bytes) (room : List ℕ) (k s j : ℕ) → Strided b room → s ≡ getD room 0 0 → j ≤ getD room 1 0 → 0 < j → j * s ≤ k
     → Stands b (walked b (placeIn room j) (k - j * s)) k
 index-walk b room k s j x e last some h =
     let here : Stands b (placeIn room j) (j * s) = rw e (x .places j some last) in

@@ -3,3 +3,4 @@ pub mod Held
 pub mod Cut
 pub mod Grow
 pub mod Scratch
+pub mod Lanes

@@ -35,12 +35,29 @@ placeIn room j = getD room (2 * j) 0 + 65536 * getD room (2 * j + 1) 0
 unfoldable pub withPlace : List ℕ → ℕ → ℕ → List ℕ
 withPlace room j p = set (set room (2 * j) (p % 65536)) (2 * j + 1) (p / 65536)
 
--- The part holds the places of names: number 0 is the stride, number 1 the last place j that is held; place j is that of name j times the stride.
--- Place 0 is not held: the first name stands behind the index array.
-pub record Index (b : Bytes) (room : List ℕ) : Type 0 where
-  pub stride : 0 < getD room 0 0
+-- The part holds the places of names in one of two ways. Number 0 tells: it is the stride, or 0 for chains.
+-- By stride: number 1 is the last place j that is held; place j is that of name j times the stride. Place 0 is not held: the first name stands
+-- behind the index array.
+pub record Strided (b : Bytes) (room : List ℕ) : Type 0 where
   pub inside : 2 * getD room 1 0 + 1 < length room
   pub places : (j : ℕ) → 0 < j → j ≤ getD room 1 0 → Stands b (placeIn room j) (j * getD room 0 0)
+
+-- By chains: eight of them, each with as many numbers as number 1 says, behind 36. The head of chain i, at 4 + 4i, is the place of its first name,
+-- that name's number, and the number in the chain of the last name held; a name is held by its distance from the first.
+pub record ChainAt (b : Bytes) (room : List ℕ) (i : ℕ) : Type 0 where
+  pub few : getD room (7 + 4 * i) 0 < getD room 1 0
+  pub places : (j : ℕ) → j ≤ getD room (7 + 4 * i) 0
+      → Stands b (placeIn room (2 + 2 * i) + getD room (36 + i * getD room 1 0 + j) 0) (getD room (6 + 4 * i) 0 + j)
+
+pub record Chained (b : Bytes) (room : List ℕ) : Type 0 where
+  pub inside : 36 + 8 * getD room 1 0 ≤ length room
+  pub from-first : getD room 6 0 ≡ 0
+  pub chains : (i : ℕ) → i < 8 → ChainAt b room i
+
+pub record Index (b : Bytes) (room : List ℕ) : Type 0 where
+  pub some : 2 ≤ length room
+  pub strided : 0 < getD room 0 0 → Strided b room
+  pub chained : getD room 0 0 ≡ 0 → Chained b room
 
 -- what `measure` leaves for `write`: the index, in the scratch's places 2n to 4n
 pub record Indexed (b : Bytes) (scratch : List ℕ) (n : ℕ) : Type 0 where

@@ -1,6 +1,7 @@
 // post: the glyphs' names (the crate's post.rs). Only version 2 has names of its own; any other is copied.
 // Kept are the first 32 bytes; a kept glyph's index stays if it is 257 or below, and is else numbered from 258 on,
 // its own name stored. `measure` puts the names' places into the scratch's free half, for itself and for `write`.
+mod chains;
 mod names;
 
 ghost use mathlib.Core.Path.{_≡_};
@@ -39,7 +40,7 @@ pub fn measure(post: &[u8], scratch: &mut [u16], n: usize, kept: usize) -> answe
         Tested::Wanted(want) => {
             let from = 2 * n;
             let end = from + 2 * n;
-            names::fill(post, want, &mut scratch[from..end]);
+            names::fill(post, want, kept, &mut scratch[from..end]);
             answer::Size::Bytes(new_size(post, scratch, n, kept))
         }
     }

@@ -56,13 +56,13 @@ fill-requires c κs =
     let a = c .before .before .before .before .before .before .before .before .args in
     let g = c .before .before .want .given in
     let t = rw (g .1) at (c .before .before .before .before .test .ensures) in
-    ((t .0 .array, c .before .before .before .before .before .before .before .before .pre .1), (t .1, simp (length-take, length-drop) (omega arith)))
+    ((t .0 .array, c .before .before .before .before .before .before .before .before .pre .1), (t .1, simp (length-take, length-drop) (omega arith), simp (length-take, length-drop) (omega arith)))
 
 new-size-requires : tie.Need-new-size-requires
 new-size-requires c κs =
     let a = c .before .before .before .before .before .before .before .before .before .before .before .before .args in
     let s = a .scratch .now in
-    let room = c .before .before .before .fill .last .1 .1 .0 in
+    let room = c .before .before .before .fill .last .1 .1 .1 .0 in
     let h : 4 * a .n ≤ length s = omega arith in
     let l = room-length s room (a .n) h (c .before .before .scratch .given .0) in
     let t = rw (c .before .before .before .before .before .before .want .given .1) at (c .before .before .before .before .before .before .before .before .test .ensures) in (
@@ -95,7 +95,7 @@ returns-3 : tie.Need-returns-3
 returns-3 c =
     let a = c .before .before .before .before .before .before .before .before .before .before .before .before .before .args in
     let s = a .scratch .now in
-    let room = c .before .before .before .before .fill .last .1 .1 .0 in
+    let room = c .before .before .before .before .fill .last .1 .1 .1 .0 in
     let h : 4 * a .n ≤ length s = omega arith in
     let l = room-length s room (a .n) h (c .before .before .before .scratch .given .0) in
     let t = rw (c .before .before .before .before .before .before .before .want .given .1) at (c .before .before .before .before .before .before .before .before .before .test .ensures) in

@@ -1,10 +1,8 @@
--- A held place stands for its name, and the walk from there for those behind it.
+-- With a stride of 1 place k is name k's.
+use mathlib.Core.Path.{_≡_, sym, ap, _∙_}
+use Prim.Native.Nat.{ℕ, _*_}
+use lib.ListN.{getD}
 use native.Mathlib.Omega.{arith}
-use native.Mathlib.Nat.{zero-add}
-use Prim.Native.Nat.{_+_, _*_}
-use Rattle.model.specs.Bytes.{word16}
-use Rattle.post.proofs.Walk.{stands-first, stands-walked}
-use Rattle.post.proofs.Held.{slot-before, index-walk}
 use borrow.Author.Needs.{needs}
 use Rattle.post.proofs.names.name_at.Statement.{statement}
 use Rattle.post.proofs.names.name_at.Tie as tie
@@ -21,49 +19,29 @@ shared-slice-read-wide-2 c = search needs
 wide-requires-2 : tie.Need-wide-requires-2
 wide-requires-2 c κs = search needs
 
-slot-requires : tie.Need-slot-requires
-slot-requires c κs = search needs
-
-u16-at-requires : tie.Need-u16-at-requires
-u16-at-requires c κs = search needs
-
-wide-requires-3 : tie.Need-wide-requires-3
-wide-requires-3 c κs = search needs
-
-mul-walk : tie.Need-mul-walk
-mul-walk c = search needs
-
-add-walk : tie.Need-add-walk
-add-walk c = search needs
-
-walk-requires : tie.Need-walk-requires
-walk-requires c κs = search needs
+place-requires : tie.Need-place-requires
+place-requires c κs =
+    let i = c .before .before .before .before .before .before .before .before .before .pre .0 .strided (omega arith) in
+    omega (arith, i .inside)
 
 returns : tie.Need-returns
 returns c =
-    let a = c .before .before .before .before .before .before .before .before .before .before .before .args in
-    rw (c .walk .ensures, c .before .wide3 .ensures .0, c .before .before .u16-at .ensures)
-    (rw zero-add at (stands-walked (a .post .now) (34 + 2 * word16 (a .post .now) 32) 0 (a .k) (stands-first (a .post .now))))
+    let a = c .before .before .before .before .before .before .before .before .before .before .args in
+    let p = c .before .before .before .before .before .before .before .before .before .before .pre .0 .strided (omega arith) in
+    let one : a .k * getD (a .room .now) 0 0 ≡ a .k = ap (λ (x : ℕ). a .k * x) (sym (c .before .before .before .before .before .before .wide .ensures .0) ∙ c .before .before .before .before .before .if1 .taken) ∙ omega arith in
+    rw (c .place .ensures .0) (rw one at (p .places (a .k) (omega arith) (omega arith)))
 
-place-requires : tie.Need-place-requires
-place-requires c κs = search needs
-
-mul-walk-2 : tie.Need-mul-walk-2
-mul-walk-2 c = omega (arith, slot-before (c .before .before .before .before .before .before .before .before .before .args .k) (c .before .before .before .before .before .wide .result) (c .before .before .slot .result) (omega arith))
-
-sub-walk : tie.Need-sub-walk
-sub-walk c = omega (arith, slot-before (c .before .before .before .before .before .before .before .before .before .args .k) (c .before .before .before .before .before .wide .result) (c .before .before .slot .result) (omega arith))
-
-walk-requires-2 : tie.Need-walk-requires-2
-walk-requires-2 c κs = search needs
+name-far-requires : tie.Need-name-far-requires
+name-far-requires c κs = search needs
 
 returns-2 : tie.Need-returns-2
-returns-2 c =
-    let a = c .before .before .before .before .before .before .before .before .before .before .args in
-    let s = c .before .before .before .before .before .before .wide .result in
-    let j = c .before .before .before .slot .result in
-    rw (c .walk2 .ensures, c .before .place .ensures)
-    (index-walk (a .post .now) (a .room .now) (a .k) s j (c .before .before .before .before .before .before .before .before .before .before .pre .0) (c .before .before .before .before .before .before .wide .ensures .0) (omega arith) (omega arith) (slot-before (a .k) s j (omega arith)))
+returns-2 c = search needs
+
+name-far-requires-2 : tie.Need-name-far-requires-2
+name-far-requires-2 c κs = search needs
+
+returns-3 : tie.Need-returns-3
+returns-3 c = search needs
 
 pub name-at-spec : {M : Type 1} → statement M
 name-at-spec =
@@ -73,15 +51,9 @@ name-at-spec =
     wide-requires
     shared-slice-read-wide-2
     wide-requires-2
-    slot-requires
-    u16-at-requires
-    wide-requires-3
-    mul-walk
-    add-walk
-    walk-requires
-    returns
     place-requires
-    mul-walk-2
-    sub-walk
-    walk-requires-2
-    returns-2)
+    returns
+    name-far-requires
+    returns-2
+    name-far-requires-2
+    returns-3)
