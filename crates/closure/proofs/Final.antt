@@ -29,8 +29,8 @@ use Rattle.closure.specs.declared.Closed.the-variants.{Kept, No}
 use Rattle.closure.proofs.Requests.{begun, seed-asks}
 
 -- before the requests
-pub started-walks : (n : ℕ) (s s₁ : List ℕ) → (n ≡ 0 → ⊥) → 4 * n ≤ length s → s₁ ≡ started n s → Walking n s₁ (0 ∷ []) []
-started-walks n s s₁ some size e = subst (λ (t : List ℕ). Walking n t (0 ∷ []) []) (sym e) (walking-started n s (omega arith) size)
+pub started-walks : (n : ℕ) (s s₁ : List ℕ) → (n ≡ 0 → ⊥) → n ≤ 65536 → 4 * n ≤ length s → s₁ ≡ started n s → Walking n s₁ (0 ∷ []) []
+started-walks n s s₁ some few size e = subst (λ (t : List ℕ). Walking n t (0 ∷ []) []) (sym e) (walking-started n s (omega arith) size few)
 
 -- and behind them
 pub numbered-all : (n : ℕ) (qs s₁ s₂ : List ℕ) (count : ℕ) → Numbered n qs s₁ s₂ (numbered.Of count) → Numbering n s₂ count

@@ -1,32 +1,18 @@
--- Filling a row, a number a turn; and what the scratch holds once its rows are filled and glyph 0 is numbered.
-use Prim.Native.Nat.{ℕ, zero, suc, _+_, _*_, _-_, _≤_, _<_}
+-- Filling a row, a number a turn; and what the scratch holds once it is cleared behind the roster and glyph 0 is numbered.
+use Prim.Native.Nat.{ℕ, _+_, _*_, _-_, _≤_, _<_}
 use mathlib.Core.List.{List, [], _∷_, _++_, append-assoc}
 use mathlib.Core.Path.{_≡_, refl, sym, ap, _∙_, subst}
 use native.Mathlib.Omega.{arith}
-use native.Mathlib.Nat.{zero-add}
 use native.Mathlib.Numerals.{add-one}
-use lib.ListN.{length, take, getD, drop, set, replicate, length-append, length-drop, length-replicate, getD-replicate, List·getD-append}
-use lib.Seq.{paste, paste-suc, take-length, ext-getD, getD-drop, getD-append-seam}
-use lib.Dec.{eqb}
-use borrow.Author.Tests.{eqb-true, eqb-false}
+use lib.ListN.{length, take, getD, drop, set, replicate, length-drop, length-replicate, getD-replicate}
+use lib.Seq.{paste, paste-suc, take-length, ext-getD, getD-drop}
 use Rattle.model.specs.Bytes.{put}
-use Rattle.model.proofs.Bytes.{length-put, getD-put, getD-put-before, getD-put-after}
-use Rattle.model.proofs.Members.{In, by, clash, in-here, in-one}
-use Rattle.remapper.specs.Scratch.{num, prev, next, upTo, started}
+use Rattle.model.proofs.Bytes.{length-put, getD-put, getD-put-after}
+use Rattle.model.proofs.Members.{clash, in-here, in-one}
+use Rattle.remapper.specs.Scratch.{link, prev, next, started}
 use Rattle.remapper.specs.State.{Waits, Walking}
 use Rattle.remapper.proofs.Waiting.{waits-same}
 use Rattle.remapper.proofs.Numbering.{size-given, upper-given, past-given, rostered-given}
-
-pub length-upTo : (n : ℕ) → length (upTo n) ≡ n
-length-upTo zero = refl
-length-upTo (suc n) = length-append (upTo n) (n ∷ []) ∙ add-one (length (upTo n)) ∙ ap suc (length-upTo n)
-
-pub getD-upTo : (n i : ℕ) → i < n → getD (upTo n) i 0 ≡ i
-getD-upTo zero i h = absurd (omega arith)
-getD-upTo (suc n) i h =
-    by (eqb i n)
-    (λ e. ap (λ (t : ℕ). getD (upTo n ++ (n ∷ [])) t 0) (eqb-true i n e ∙ sym (length-upTo n)) ∙ getD-append-seam (upTo n) n [] 0 ∙ sym (eqb-true i n e))
-    (λ e. List·getD-append (upTo n) (n ∷ []) 0 i (omega (arith, length-upTo n, eqb-false i n e)) ∙ getD-upTo n i (omega (arith, eqb-false i n e)))
 
 -- the first i numbers of xs are in their places
 pub fill-turn : (d xs s : List ℕ) (at i v : ℕ) → s ≡ paste d at xs i → at + length xs ≤ length d → i < length xs → v ≡ getD xs i 0 → set s (at + i) v ≡ paste d at xs (i + 1)
@@ -43,93 +29,64 @@ drop-put d bs i k h m =
     ext-getD 0 (drop k (put d i bs)) (drop k d) (simp length-drop (ap (λ (t : ℕ). t - k) (length-put d i bs h)))
     (λ j l. getD-drop k (put d i bs) j 0 ∙ getD-put-after d i bs (k + j) (omega arith) (omega arith) ∙ sym (getD-drop k d j 0))
 
--- the rows before glyph 0 is numbered: zeros, zeros, and twice the ids in order
+-- the rows before glyph 0 is numbered: zeros behind the roster, so that each glyph is linked to itself
 module _ (n : ℕ) (s : List ℕ) (some : 0 < n) (size : 4 * n ≤ length s) where
-  zeroed : List ℕ
-  zeroed = put s 0 (replicate (2 * n) 0)
+  cleared : List ℕ
+  cleared = put s n (replicate (3 * n) 0)
 
-  backed : List ℕ
-  backed = put zeroed (2 * n) (upTo n)
+  nulls : length (replicate {A = ℕ} (3 * n) 0) ≡ 3 * n
+  nulls = length-replicate {A = ℕ} (3 * n) 0
 
-  filled : List ℕ
-  filled = put backed (3 * n) (upTo n)
+  same-size : length cleared ≡ length s
+  unfolding cleared
+  same-size = length-put s n (replicate (3 * n) 0) (omega (arith, nulls))
 
-  ids : length (upTo n) ≡ n
-  ids = length-upTo n
-
-  nulls : length (replicate {A = ℕ} (2 * n) 0) ≡ 2 * n
-  nulls = length-replicate {A = ℕ} (2 * n) 0
-
-  size₁ : length zeroed ≡ length s
-  unfolding zeroed
-  size₁ = length-put s 0 (replicate (2 * n) 0) (omega (arith, nulls))
-
-  size₂ : length backed ≡ length s
-  unfolding backed
-  size₂ = length-put zeroed (2 * n) (upTo n) (omega (arith, ids, size₁)) ∙ size₁
-
-  size₃ : length filled ≡ length s
-  unfolding filled
-  size₃ = length-put backed (3 * n) (upTo n) (omega (arith, ids, size₂)) ∙ size₂
-
-  number : (g : ℕ) → g < n → num n filled g ≡ 0
-  unfolding filled backed zeroed
-  number g m =
-      getD-put-before backed (3 * n) (upTo n) (n + g) (omega (arith, size₂)) (omega arith)
-      ∙ getD-put-before zeroed (2 * n) (upTo n) (n + g) (omega (arith, size₁)) (omega arith)
-      ∙ ap (λ (i : ℕ). getD zeroed i 0) (sym (zero-add (n + g)))
-      ∙ getD-put s 0 (replicate (2 * n) 0) (n + g) (omega arith) (omega (arith, nulls))
-      ∙ getD-replicate (2 * n) (n + g) 0 0 (omega arith)
-
-  back : (g : ℕ) → g < n → prev n filled g ≡ g
-  unfolding filled backed
-  back g m =
-      getD-put-before backed (3 * n) (upTo n) (2 * n + g) (omega (arith, size₂)) (omega arith)
-      ∙ getD-put zeroed (2 * n) (upTo n) g (omega (arith, size₁)) (omega (arith, ids)) ∙ getD-upTo n g m
-
-  on : (g : ℕ) → g < n → next n filled g ≡ g
-  unfolding filled
-  on g m = getD-put backed (3 * n) (upTo n) g (omega (arith, size₂)) (omega (arith, ids)) ∙ getD-upTo n g m
-
-  past : drop (4 * n) filled ≡ drop (4 * n) s
-  unfolding filled backed zeroed
-  past =
-      drop-put backed (upTo n) (3 * n) (4 * n) (omega (arith, ids, size₂)) (omega (arith, ids))
-      ∙ drop-put zeroed (upTo n) (2 * n) (4 * n) (omega (arith, ids, size₁)) (omega (arith, ids))
-      ∙ drop-put s (replicate (2 * n) 0) 0 (4 * n) (omega (arith, nulls)) (omega (arith, nulls))
-
-  first : (x : ℕ) → In x (0 ∷ []) → x < n
-  first x m = omega (arith, in-one x 0 m)
-
-  lone : Waits n filled (0 ∷ []) []
-  lone =
-      record {
-        linked = record {
-          size = omega (arith, size₃);
-          back = λ g m. subst (λ (t : ℕ). t < n) (sym (back g m)) m;
-          on = λ g m. subst (λ (t : ℕ). t < n) (sym (on g m)) m;
-        };
-        ring = (on 0 some, back 0 some);
-        once = tt;
-        low = λ x m. clash m refl;
-        apart = λ x m. clash m refl;
-        lone = λ x m a b. (back x m, on x m);
-        zeroth = in-here 0 [];
-      }
-
-  pub walking-started : Walking n (started n s) (0 ∷ []) []
-  unfolding started filled backed zeroed
-  walking-started =
-      record {
-        rostered = rostered-given n filled [] 0 (omega (arith, size₃)) some some refl (record { ids = refl; numbers = number });
-        once = (refl, tt);
-        low = first;
-        waits = waits-same n filled (started n s) (0 ∷ []) [] (size-given n filled [] 0 (omega (arith, size₃)) some some) (upper-given n filled [] 0 (omega (arith, size₃)) some some) lone;
-      }
+  null : (j : ℕ) → j < 3 * n → getD cleared (n + j) 0 ≡ 0
+  unfolding cleared
+  null j m = getD-put s n (replicate (3 * n) 0) j (omega arith) (omega (arith, nulls)) ∙ getD-replicate (3 * n) j 0 0 m
 
   pub past-started : drop (4 * n) (started n s) ≡ drop (4 * n) s
-  unfolding started filled backed zeroed
-  past-started = past-given n filled [] 0 (omega (arith, size₃)) some some ∙ past
+  unfolding started cleared
+  past-started =
+      past-given n cleared [] 0 (omega (arith, same-size)) some some
+      ∙ drop-put s (replicate (3 * n) 0) n (4 * n) (omega (arith, nulls)) (omega (arith, nulls))
+
+  module _ (few : n ≤ 65536) where
+    itself : (base g j : ℕ) → g < n → n + j ≡ base + g → j < 3 * n → link base cleared g ≡ g
+    unfolding link
+    itself base g j m e h = let z : getD cleared (base + g) 0 ≡ 0 = subst (λ (i : ℕ). getD cleared i 0 ≡ 0) e (null j h) in omega arith
+
+    back : (g : ℕ) → g < n → prev n cleared g ≡ g
+    back g m = itself (2 * n) g (n + g) m (omega arith) (omega arith)
+
+    on : (g : ℕ) → g < n → next n cleared g ≡ g
+    on g m = itself (3 * n) g (2 * n + g) m (omega arith) (omega arith)
+
+    lone : Waits n cleared (0 ∷ []) []
+    lone =
+        record {
+          linked = record {
+            size = omega (arith, same-size);
+            back = λ g m. subst (λ (t : ℕ). t < n) (sym (back g m)) m;
+            on = λ g m. subst (λ (t : ℕ). t < n) (sym (on g m)) m;
+          };
+          ring = (on 0 some, back 0 some);
+          once = tt;
+          low = λ x m. clash m refl;
+          apart = λ x m. clash m refl;
+          lone = λ x m a b. (back x m, on x m);
+          zeroth = in-here 0 [];
+        }
+
+    pub walking-started : Walking n (started n s) (0 ∷ []) []
+    unfolding started cleared
+    walking-started =
+        record {
+          rostered = rostered-given n cleared [] 0 (omega (arith, same-size)) some some refl (record { ids = refl; numbers = λ g m. null g (omega arith) });
+          once = (refl, tt);
+          low = λ x m. omega (arith, in-one x 0 m);
+          waits = waits-same n cleared (started n s) (0 ∷ []) [] (size-given n cleared [] 0 (omega (arith, same-size)) some some) (upper-given n cleared [] 0 (omega (arith, same-size)) some some) lone;
+        }
 
 -- how a call leaves the scratch: the roster, or nothing of it, and zeros up to 4n
 pub roster-left : (n : ℕ) (s₀ s r : List ℕ) → take (length r) s ≡ r → drop (4 * n) s ≡ drop (4 * n) s₀ → length r ≤ 4 * n

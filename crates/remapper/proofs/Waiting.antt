@@ -1,6 +1,6 @@
 -- What waits. Unlinking takes an id out of the ring, inserting puts one on its top; between the two the id's own links don't matter, as those
 -- of a numbered id don't: so the middle is a state too, with the id among those of the roster.
-use Prim.Native.Nat.{ℕ, _+_, _*_, _<_}
+use Prim.Native.Nat.{ℕ, _+_, _*_, _%_, _<_}
 use mathlib.Core.Bool.{false}
 use mathlib.Core.List.{List, [], _∷_, _++_}
 use mathlib.Core.Logic.{_⊎_, inl, inr, ⊎-elim}
@@ -14,10 +14,10 @@ use Rattle.model.specs.Bytes.{member}
 use Rattle.model.proofs.Members.{In, by, clash, in-here, in-there, in-cons, in-one, in-eq, in-left, in-right, in-append}
 use Rattle.model.proofs.Thin.{without}
 use Rattle.model.proofs.Start.{Once, out-of, without-out}
-use Rattle.remapper.specs.Scratch.{num, prev, next, unlinked, inserted, moved, offered, Linked}
+use Rattle.remapper.specs.Scratch.{num, link, relinked, prev, next, unlinked, inserted, moved, offered, Linked}
 use Rattle.remapper.specs.State.{Links, Waits}
-use Rattle.remapper.proofs.Ring.{Upd, frame, neighbours, takeOut, putIn}
-use Rattle.remapper.proofs.Rows.{Keeps, keeps-self, keeps-trans, Unlinks, unlinks, Inserts, inserts}
+use Rattle.remapper.proofs.Ring.{frame, between, neighbours, takeOut, putIn}
+use Rattle.remapper.proofs.Rows.{Keeps, keeps-self, keeps-link, keeps-trans, link-low, link-below, Unlinks, unlinks, keeps-inserted, Inserts, inserts}
 
 -- lists without an id
 pub in-without : (c x : ℕ) (l : List ℕ) → In x (without c l) → In x l
@@ -51,46 +51,35 @@ snoc-out x c r h = (out-of x r (λ m. clash (in-left x r (c ∷ []) m) h), λ e.
 
 module _ (n : ℕ) where
   -- links stay below n
-  upd-below : (f f′ : ℕ → ℕ) (u v : ℕ) → Upd n f f′ u v → v < n → ((x : ℕ) → x < n → f x < n) → (x : ℕ) → x < n → f′ x < n
-  upd-below f f′ u v h b k x m = by (eqb x u) (λ e. omega (arith, h .0, ap f′ (eqb-true x u e))) (λ e. omega (arith, h .1 x m (eqb-false x u e), k x m))
+  linked-back : (s : List ℕ) (g v : ℕ) → g < n → v < n → Linked n s → Linked n (relinked (2 * n) s g v)
+  linked-back s g v a b h =
+      record {
+        size = omega (arith, keeps-link n s (2 * n) g v (omega arith) (omega arith) .size, h .size);
+        back = λ x m. link-below (2 * n) s g v n (2 * n) x (omega arith) (omega (arith, h .size)) a b (h .back x m);
+        on = λ x m. link-below (2 * n) s g v n (3 * n) x (omega arith) (omega (arith, h .size)) a b (h .on x m);
+      }
+
+  linked-on : (s : List ℕ) (g v : ℕ) → g < n → v < n → Linked n s → Linked n (relinked (3 * n) s g v)
+  linked-on s g v a b h =
+      record {
+        size = omega (arith, keeps-link n s (3 * n) g v (omega arith) (omega arith) .size, h .size);
+        back = λ x m. link-below (3 * n) s g v n (2 * n) x (omega arith) (omega (arith, h .size)) a b (h .back x m);
+        on = λ x m. link-below (3 * n) s g v n (3 * n) x (omega arith) (omega (arith, h .size)) a b (h .on x m);
+      }
 
   pub linked-unlinked : (s : List ℕ) (c : ℕ) → c < n → Linked n s → Linked n (unlinked n s c)
+  unfolding unlinked
   linked-unlinked s c k h =
-      record {
-        size = omega (arith, v .keeps .size, h .size);
-        back = upd-below (prev n s) (prev n (unlinked n s c)) (next n s c) (prev n s c) (v .pv) (h .back c k) (h .back);
-        on = upd-below (next n s) (next n (unlinked n s c)) (prev n s c) (next n s c) (v .nx) (h .on c k) (h .on);
-      }
-    where
-      v : Unlinks n s c (unlinked n s c)
-      v = unlinks n s c (h .size) (h .back c k) (h .on c k)
+      let u = h .back c k in
+      let w = h .on c k in
+      linked-back (relinked (3 * n) s (prev n s c) (next n s c)) (next n s c) (prev n s c) w u (linked-on s (prev n s c) (next n s c) u w h)
 
   pub linked-inserted : (s : List ℕ) (c : ℕ) → c < n → Linked n s → Linked n (inserted n s c)
+  unfolding inserted
   linked-inserted s c k h =
-      record {
-        size = omega (arith, v .keeps .size, h .size);
-        back = λ x m.
-            by (eqb x (next n s 0))
-            (λ e. omega (arith, ap (prev n s′) (eqb-true x (next n s 0) e), v .pt))
-            (λ e. by (eqb x c)
-            (λ q. omega (arith, ap (prev n s′) (eqb-true x c q), v .pc (λ t. eqb-false x (next n s 0) e (eqb-true x c q ∙ t))))
-            (λ q. omega (arith, v .px x m (eqb-false x (next n s 0) e) (eqb-false x c q), h .back x m)));
-        on = λ x m.
-            by (eqb x 0)
-            (λ e. omega (arith, ap (next n s′) (eqb-true x 0 e), v .n0))
-            (λ e. by (eqb x c)
-            (λ q. omega (arith, ap (next n s′) (eqb-true x c q), v .nc (λ t. eqb-false x 0 e (eqb-true x c q ∙ t)), t))
-            (λ q. omega (arith, v .nx x m (eqb-false x 0 e) (eqb-false x c q), h .on x m)));
-      }
-    where
-      s′ : List ℕ
-      s′ = inserted n s c
-
-      t : next n s 0 < n
-      t = h .on 0 (omega arith)
-
-      v : Inserts n s c (inserted n s c)
-      v = inserts n s c (h .size) k t
+      let z : 0 < n = omega arith in
+      let t = h .on 0 z in
+      linked-on _ 0 c z k (linked-back _ (next n s 0) c t k (linked-back _ c 0 k z (linked-on s c (next n s 0) k t h)))
 
   pub keeps-unlinked : (s : List ℕ) (c : ℕ) → c < n → Linked n s → Keeps n s (unlinked n s c)
   keeps-unlinked s c k h = unlinks n s c (h .size) (h .back c k) (h .on c k) .keeps
@@ -103,7 +92,7 @@ module _ (n : ℕ) where
   unfolding moved
   keeps-moved s c k h =
       let m = linked-unlinked s c k h in
-      keeps-trans n s (unlinked n s c) (inserted n (unlinked n s c) c) (keeps-unlinked s c k h) (inserts n (unlinked n s c) c (m .size) k (m .on 0 (omega arith)) .keeps)
+      keeps-trans n s (unlinked n s c) (inserted n (unlinked n s c) c) (keeps-unlinked s c k h) (keeps-inserted n (unlinked n s c) c (m .size) k (m .on 0 (omega arith)))
 
   -- an offer moves the component or does nothing
   offered-either : (P : List ℕ → Type 0) (s : List ℕ) (c : ℕ) → P (moved n s c) → P s → P (offered n s c)
@@ -146,6 +135,13 @@ module _ (n : ℕ) (s r l : List ℕ) (v : Waits n s r l) (c : ℕ) (k : c < n) 
       by (member c l)
       (λ m. let t = neighbours (prev n s) (next n s) 0 l 0 c (v .ring) m in (inr (t .0), inr (t .1)))
       (λ m. let t = v .lone c k new m in (inl (t .0), inl (t .1)))
+
+  -- some link is c
+  pub named : c < 65536
+  named =
+      by (member c l)
+      (λ m. omega (arith, between (prev n s) (next n s) 0 l 0 c (v .ring) m .0, link-low (3 * n) s (prev n s c)))
+      (λ m. omega (arith, v .lone c k new m .1, link-low (3 * n) s c))
 
   ring-unlinked : Links (prev n (unlinked n s c)) (next n (unlinked n s c)) 0 (without c l) 0
   ring-unlinked =
@@ -194,9 +190,9 @@ module _ (n : ℕ) (s r l : List ℕ) (v : Waits n s r l) (c : ℕ) (k : c < n) 
           away y (inl t) e = a .1 (e ∙ t)
           away y (inr t) e = not-seat n s r l v x y (a .0) out t e
 
-module _ (n : ℕ) (s r l : List ℕ) (c : ℕ) (v : Waits n s (r ++ (c ∷ [])) l) (k : c < n) (new : member c r ≡ false) (zeroth : In 0 r) where
+module _ (n : ℕ) (s r l : List ℕ) (c : ℕ) (v : Waits n s (r ++ (c ∷ [])) l) (k : c < n) (small : c < 65536) (new : member c r ≡ false) (zeroth : In 0 r) where
   ins : Inserts n s c (inserted n s c)
-  ins = inserts n s c (v .linked .size) k (v .linked .on 0 (omega arith))
+  ins = inserts n s c (v .linked .size) k (v .linked .on 0 (omega arith)) small
 
   c∉l : member c l ≡ false
   c∉l = out-of c l (λ m. clash (in-right c r (c ∷ []) (in-here c [])) (v .apart c m))
@@ -252,7 +248,7 @@ module _ (n : ℕ) (s r l : List ℕ) (c : ℕ) (v : Waits n s (r ++ (c ∷ []))
 -- an unnumbered component moves to the top
 pub waits-moved : (n : ℕ) (s r l : List ℕ) (c : ℕ) → Waits n s r l → c < n → member c r ≡ false → Waits n (moved n s c) r (c ∷ without c l)
 unfolding moved
-waits-moved n s r l c v k new = waits-inserted n (unlinked n s c) r (without c l) c (waits-unlinked n s r l v c k new) k new (v .zeroth)
+waits-moved n s r l c v k new = waits-inserted n (unlinked n s c) r (without c l) c (waits-unlinked n s r l v c k new) k (named n s r l v c k new) new (v .zeroth)
 
 -- one more id's links don't matter
 pub waits-more : (n : ℕ) (s r l : List ℕ) (c : ℕ) → Waits n s r l → member c l ≡ false → Waits n s (r ++ (c ∷ [])) l
@@ -269,6 +265,7 @@ waits-more n s r l c v out =
 
 -- only the links matter
 pub waits-same : (n : ℕ) (s s′ r l : List ℕ) → length s′ ≡ length s → drop (2 * n) s′ ≡ drop (2 * n) s → Waits n s r l → Waits n s′ r l
+unfolding link
 waits-same n s s′ r l e d v =
     record {
       linked = record {
@@ -284,14 +281,17 @@ waits-same n s s′ r l e d v =
       zeroth = v .zeroth;
     }
   where
+    read : (x : ℕ) → getD s′ (2 * n + x) 0 ≡ getD s (2 * n + x) 0
+    read x = sym (getD-drop (2 * n) s′ x 0) ∙ ap (λ (t : List ℕ). getD t x 0) d ∙ getD-drop (2 * n) s x 0
+
     back : (x : ℕ) → prev n s′ x ≡ prev n s x
-    back x = sym (getD-drop (2 * n) s′ x 0) ∙ ap (λ (t : List ℕ). getD t x 0) d ∙ getD-drop (2 * n) s x 0
+    back x = ap (λ (t : ℕ). (t + x) % 65536) (read x)
 
     far : (x : ℕ) → 2 * n + (n + x) ≡ 3 * n + x
     far x = omega arith
 
     on : (x : ℕ) → next n s′ x ≡ next n s x
-    on x = subst (λ (i : ℕ). getD s′ i 0 ≡ getD s i 0) (far x) (back (n + x))
+    on x = ap (λ (t : ℕ). (t + x) % 65536) (subst (λ (i : ℕ). getD s′ i 0 ≡ getD s i 0) (far x) (read (n + x)))
 
 -- the two cases of an offer
 pub offered-new : (n : ℕ) (s : List ℕ) (c : ℕ) → num n s c ≡ 0 → offered n s c ≡ moved n s c

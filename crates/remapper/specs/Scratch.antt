@@ -1,8 +1,8 @@
 -- What the functions do to the scratch: 4n numbers in four rows, the roster, the numbers (new number + 1 by old id, 0: none), the previous
 -- links and the next links. The waiting components are a ring through glyph 0, which never waits: its next link is the top. A glyph with no
--- number that does not wait is a ring of its own.
-use Prim.Native.Nat.{ℕ, zero, suc, _+_, _*_, _≤_, _<_}
-use mathlib.Core.List.{List, [], _∷_, _++_}
+-- number that does not wait is a ring of its own. A link is stored as its distance from the glyph, modulo 65,536: 0 is the glyph itself.
+use Prim.Native.Nat.{ℕ, _+_, _*_, _-_, _%_, _≤_, _<_}
+use mathlib.Core.List.{List}
 use lib.ListN.{length, getD, set, replicate}
 use lib.Dec.{eqb}
 use Rattle.model.specs.Res.{pick}
@@ -11,19 +11,27 @@ use Rattle.model.specs.Bytes.{put}
 abbrev pub num : ℕ → List ℕ → ℕ → ℕ
 num n s g = getD s (n + g) 0
 
+-- g's link in the row that starts at base
+unfoldable pub link : ℕ → List ℕ → ℕ → ℕ
+link base s g = (getD s (base + g) 0 + g) % 65536
+
+-- it becomes v
+unfoldable pub relinked : ℕ → List ℕ → ℕ → ℕ → List ℕ
+relinked base s g v = set s (base + g) ((v + 65536 - g) % 65536)
+
 abbrev pub prev : ℕ → List ℕ → ℕ → ℕ
-prev n s g = getD s (2 * n + g) 0
+prev n s g = link (2 * n) s g
 
 abbrev pub next : ℕ → List ℕ → ℕ → ℕ
-next n s g = getD s (3 * n + g) 0
+next n s g = link (3 * n) s g
 
 -- c's neighbours are joined
 unfoldable pub unlinked : ℕ → List ℕ → ℕ → List ℕ
-unlinked n s c = set (set s (3 * n + prev n s c) (next n s c)) (2 * n + next n s c) (prev n s c)
+unlinked n s c = relinked (2 * n) (relinked (3 * n) s (prev n s c) (next n s c)) (next n s c) (prev n s c)
 
 -- c comes after glyph 0
 unfoldable pub inserted : ℕ → List ℕ → ℕ → List ℕ
-inserted n s c = set (set (set (set s (3 * n + c) (next n s 0)) (2 * n + c) 0) (2 * n + next n s 0) c) (3 * n + 0) c
+inserted n s c = relinked (3 * n) (relinked (2 * n) (relinked (2 * n) (relinked (3 * n) s c (next n s 0)) c 0) (next n s 0) c) 0 c
 
 unfoldable pub moved : ℕ → List ℕ → ℕ → List ℕ
 moved n s c = inserted n (unlinked n s c) c
@@ -40,14 +48,9 @@ given n s q k = set (set s (0 + k) q) (n + q) (k + 1)
 unfoldable pub taken : ℕ → List ℕ → ℕ → ℕ → List ℕ
 taken n s c k = given n (unlinked n s c) c k
 
--- the ids below n, in order: a row of links in which each glyph is a ring of its own
-abbrev pub upTo : ℕ → List ℕ
-upTo zero = []
-upTo (suc n) = upTo n ++ (n ∷ [])
-
--- nothing is numbered but glyph 0, and nothing waits
+-- nothing is numbered but glyph 0, and nothing waits: zeros behind the roster, which is written as ids are numbered
 unfoldable pub started : ℕ → List ℕ → List ℕ
-started n s = given n (put (put (put s 0 (replicate (2 * n) 0)) (2 * n) (upTo n)) (3 * n) (upTo n)) 0 0
+started n s = given n (put s n (replicate (3 * n) 0)) 0 0
 
 -- every link is a glyph's id
 pub record Linked (n : ℕ) (s : List ℕ) : Type 0 where

@@ -1,11 +1,12 @@
 // Who has which new number, and which components wait (the crate's remapper.rs, and its stack of glyphs): in 4n lent numbers.
 // Four rows: the roster | new number + 1 by old id, 0: none | previous | next. The links are a ring through glyph 0, which never waits, so that
-// unlinking and inserting have no branch and no top is carried; a glyph that doesn't wait is a ring of its own.
+// unlinking and inserting have no branch and no top is carried; a glyph that doesn't wait is a ring of its own. A link is stored as its distance
+// from the glyph, modulo 65,536, so that zeros make each glyph a ring of its own: nothing else has to be filled in before the walk.
 ghost use mathlib.Core.Path.{_≡_};
 ghost use Prim.Native.Nat.{_+_, _*_, _≤_, _<_};
 ghost use lib.ListN.{length, getD, set, replicate};
 ghost use Rattle.model.specs.Bytes.{put};
-ghost use Rattle.remapper.specs.Scratch.{next, Linked, unlinked, inserted, moved, offered, given, taken, upTo, started};
+ghost use Rattle.remapper.specs.Scratch.{link, relinked, next, Linked, unlinked, inserted, moved, offered, given, taken, started};
 ghost use Rattle.remapper.specs.State.{Numbering, Asked};
 
 // How many glyphs have a number, or the refusal.
@@ -32,6 +33,21 @@ fn set(s: &mut [u16], base: usize, g: usize, v: usize)
     s[base + g] = v as u16;
 }
 
+// g's link in the row that starts at base.
+fn link(s: &[u16], base: usize, g: usize) -> usize
+    requires { ⌜ (base + g < length (now s)) × (g < 65536) ⌝ }
+    ensures { λ r. ⌜ (r ≡ link base (now (s .entry)) g) × (r < 65536) ⌝ }
+{
+    (get(s, base, g) + g) % 65536
+}
+
+fn set_link(s: &mut [u16], base: usize, g: usize, v: usize)
+    requires { ⌜ (base + g < length (now s)) × (g < 65536) × (v < 65536) ⌝ }
+    ensures { λ _. ⌜ now (s .exit) ≡ relinked base (now (s .entry)) g v ⌝ }
+{
+    set(s, base, g, (v + 65536 - g) % 65536);
+}
+
 // The old id that has the number k.
 pub fn old_id(s: &[u16], k: usize) -> usize
     requires { ⌜ k < length (now s) ⌝ }
@@ -46,7 +62,7 @@ pub fn top(s: &[u16], n: usize) -> usize
     ensures { λ r. ⌜ r ≡ next n (now (s .entry)) 0 ⌝ }
 {
     let f = 3 * n;
-    get(s, f, 0)
+    link(s, f, 0)
 }
 
 // Joins c's neighbours.
@@ -56,10 +72,10 @@ fn unlink(s: &mut [u16], n: usize, c: usize)
 {
     let p = 2 * n;
     let f = 3 * n;
-    let u = get(s, p, c);
-    let w = get(s, f, c);
-    set(s, f, u, w);
-    set(s, p, w, u);
+    let u = link(s, p, c);
+    let w = link(s, f, c);
+    set_link(s, f, u, w);
+    set_link(s, p, w, u);
 }
 
 // Puts c on top: after glyph 0.
@@ -69,11 +85,11 @@ fn insert(s: &mut [u16], n: usize, c: usize)
 {
     let p = 2 * n;
     let f = 3 * n;
-    let t = get(s, f, 0);
-    set(s, f, c, t);
-    set(s, p, c, 0);
-    set(s, p, t, c);
-    set(s, f, 0, c);
+    let t = link(s, f, 0);
+    set_link(s, f, c, t);
+    set_link(s, p, c, 0);
+    set_link(s, p, t, c);
+    set_link(s, f, 0, c);
 }
 
 fn move_top(s: &mut [u16], n: usize, c: usize)
@@ -142,27 +158,11 @@ pub fn zeros(s: &mut [u16], at: usize, count: usize)
     }
 }
 
-// A row of links in which each glyph is a ring of its own.
-fn rings(s: &mut [u16], at: usize, n: usize)
-    requires { ⌜ (n ≤ 65536) × (at + n ≤ length (now s)) ⌝ }
-    ensures { λ _. ⌜ now (s .exit) ≡ put (now (s .entry)) at (upTo n) ⌝ }
-{
-    let mut g = 0;
-    while g < n {
-        s[at + g] = g as u16;
-        g += 1;
-    }
-}
-
 // "Glyph 0 gets number 0", and nothing waits.
 pub fn start(s: &mut [u16], n: usize)
     requires { ⌜ (0 < n) × (n ≤ 65536) × (4 * n ≤ length (now s)) ⌝ }
     ensures { λ _. ⌜ now (s .exit) ≡ started n (now (s .entry)) ⌝ }
 {
-    let p = 2 * n;
-    let f = 3 * n;
-    zeros(s, 0, p);
-    rings(s, p, n);
-    rings(s, f, n);
+    zeros(s, n, 3 * n);
     give(s, n, 0, 0);
 }

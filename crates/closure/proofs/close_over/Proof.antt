@@ -27,7 +27,7 @@ number-all-requires : tie.Need-number-all-requires
 number-all-requires c κs =
     let a = c .before .before .before .before .before .before .before .before .before .before .args in
     let h = c .before .before .before .before .before .before .before .before .before .before .pre in
-    (h .0, started-walks (a .n) (a .scratch .now) (c .before .before .before .start .last .0) (c .before .before .before .before .before .if1 .left) (h .1) (c .before .before .before .start .ensures))
+    (h .0, started-walks (a .n) (a .scratch .now) (c .before .before .before .start .last .0) (c .before .before .before .before .before .if1 .left) (h .0) (h .1) (c .before .before .before .start .ensures))
 
 enum-known-numbered : tie.Need-enum-known-numbered
 enum-known-numbered c = search needs

@@ -9,6 +9,7 @@ use Rattle.glyf.specs.Pieces.{lengthAt}
 use Rattle.glyf.proofs.Pieces.{length-small}
 use Rattle.closure.specs.Closes.{partsIn}
 use Rattle.closure.specs.Turns.{ahead, Falls, Turned}
+use Rattle.closure.specs.declared.Step.the-variants.{On}
 use Rattle.closure.proofs.Running.{Running, running-start, running-on, ran-end, ran-no, read-small, sums-small}
 use Rattle.closure.proofs.run.Statement.{statement}
 use Rattle.closure.proofs.run.Tie as tie
@@ -19,27 +20,35 @@ Inv-loop loca glyf long s₀ n count k₀ left₀ even₀ raw₀ s k left even r
 abbrev μ-loop : tie.MeasureT-loop
 μ-loop loca glyf long s₀ n count k₀ left₀ even₀ raw₀ s k left even raw = ahead k left
 
--- the length read, and the sums so far, are small
+-- the turn went on
+turned-on : (c : tie.After-known-told Inv-loop μ-loop) → let a = c .before .before .before .before .before .before .before .before .before .before .before .args in
+    let l = c .before .before .before .before .before .before .before .loop in
+    let on = c .before .t .given .0 in
+    Turned (partsIn (width (a .long)) (a .n) (a .loca .now) (a .glyf .now)) (lengthAt (width (a .long)) (a .n) (a .loca .now) (a .glyf .now)) (a .n) (l .s) (c .before .before .before .before .before .turn .last .1 .1 .1 .0) (l .k) (l .left) (On (on .0) (on .1 .0) (on .1 .1 .0))
+turned-on c =
+    let a = c .before .before .before .before .before .before .before .before .before .before .before .args in
+    let l = c .before .before .before .before .before .before .before .loop in
+    let t = c .before .before .before .before .before .turn in
+    subst (Turned (partsIn (width (a .long)) (a .n) (a .loca .now) (a .glyf .now)) (lengthAt (width (a .long)) (a .n) (a .loca .now) (a .glyf .now)) (a .n) (l .s) (t .last .1 .1 .1 .0) (l .k) (l .left)) (c .before .t .given .1) (t .ensures)
+
+-- the length that it read, and the sums so far, are small
+all-small : (c : tie.After-known-told Inv-loop μ-loop) → let a = c .before .before .before .before .before .before .before .before .before .before .before .args in
+    (g : ℕ) → lengthAt (width (a .long)) (a .n) (a .loca .now) (a .glyf .now) g < 4294967296
+all-small c =
+    let a = c .before .before .before .before .before .before .before .before .before .before .before .args in
+    length-small (width (a .long)) (a .n) (a .loca .now) (a .glyf .now) (λ (j : ℕ). omega (arith, c .before .before .before .before .before .before .before .before .before .before .shared-slice-known .given j))
+
 kept-small : (c : tie.After-known-told Inv-loop μ-loop) → c .before .t .given .0 .1 .1 .0 < 4294967296
 kept-small c =
     let a = c .before .before .before .before .before .before .before .before .before .before .before .args in
     let l = c .before .before .before .before .before .before .before .loop in
-    let t = c .before .before .before .before .before .turn in
-    let on = c .before .t .given in
-    let parts = partsIn (width (a .long)) (a .n) (a .loca .now) (a .glyf .now) in
-    let lengths = lengthAt (width (a .long)) (a .n) (a .loca .now) (a .glyf .now) in
-    let small = length-small (width (a .long)) (a .n) (a .loca .now) (a .glyf .now) (λ (j : ℕ). omega (arith, c .before .before .before .before .before .before .before .before .before .before .shared-slice-known .given j)) in
-    let turned = subst (Turned parts lengths (a .n) (l .s) (t .last .1 .1 .1 .0) (l .k) (l .left)) (on .1) (t .ensures) in
-    read-small parts lengths (a .n) (a .s .now) (a .count) (l .s) (l .k) (l .left) (l .even) (l .raw) (l .inv) (t .last .1 .1 .1 .0) small (on .0 .0) (on .0 .1 .0) (on .0 .1 .1 .0) turned
+    read-small _ _ (a .n) (a .s .now) (a .count) (l .s) (l .k) (l .left) (l .even) (l .raw) (l .inv) _ (all-small c) _ _ _ (turned-on c)
 
 so-far : (c : tie.After-known-told Inv-loop μ-loop) → (c .before .before .before .before .before .before .before .loop .even ≤ 281474976710656) × (c .before .before .before .before .before .before .before .loop .raw ≤ 281474976710656)
 so-far c =
     let a = c .before .before .before .before .before .before .before .before .before .before .before .args in
     let l = c .before .before .before .before .before .before .before .loop in
-    let parts = partsIn (width (a .long)) (a .n) (a .loca .now) (a .glyf .now) in
-    let lengths = lengthAt (width (a .long)) (a .n) (a .loca .now) (a .glyf .now) in
-    let small = length-small (width (a .long)) (a .n) (a .loca .now) (a .glyf .now) (λ (j : ℕ). omega (arith, c .before .before .before .before .before .before .before .before .before .before .shared-slice-known .given j)) in
-    sums-small parts lengths (a .n) (a .s .now) (a .count) (l .s) (l .k) (l .left) (l .even) (l .raw) (l .inv) small (c .before .before .before .before .before .before .before .before .before .before .before .pre .0)
+    sums-small _ _ (a .n) (a .s .now) (a .count) (l .s) (l .k) (l .left) (l .even) (l .raw) (l .inv) (all-small c) (c .before .before .before .before .before .before .before .before .before .before .before .pre .0)
 
 loop-holds : tie.Need-loop-holds Inv-loop μ-loop
 loop-holds c =
@@ -70,12 +79,7 @@ loop-again : tie.Need-loop-again Inv-loop μ-loop
 loop-again c =
     let a = c .before .before .before .before .before .before .before .before .before .before .before .args in
     let l = c .before .before .before .before .before .before .before .loop in
-    let t = c .before .before .before .before .before .turn in
-    let on = c .before .t .given in
-    let parts = partsIn (width (a .long)) (a .n) (a .loca .now) (a .glyf .now) in
-    let lengths = lengthAt (width (a .long)) (a .n) (a .loca .now) (a .glyf .now) in
-    let turned = subst (Turned parts lengths (a .n) (l .s) (t .last .1 .1 .1 .0) (l .k) (l .left)) (on .1) (t .ensures) in
-    running-on parts lengths (a .n) (a .s .now) (a .count) (l .s) (l .k) (l .left) (l .even) (l .raw) (l .inv) (t .last .1 .1 .1 .0) (on .0 .0) (on .0 .1 .0) (on .0 .1 .1 .0) turned (t .kept .1 .1 .1 .0)
+    running-on _ _ (a .n) (a .s .now) (a .count) (l .s) (l .k) (l .left) (l .even) (l .raw) (l .inv) _ _ _ _ (turned-on c) (c .before .before .before .before .before .turn .kept .1 .1 .1 .0)
 
 enum-told : tie.Need-enum-told Inv-loop μ-loop
 enum-told c = search needs

@@ -11,20 +11,20 @@ mul-p c = search needs
 mul-f : tie.Need-mul-f
 mul-f c = search needs
 
-get-requires : tie.Need-get-requires
-get-requires c κs = search needs
+link-requires : tie.Need-link-requires
+link-requires c κs = search needs
 
-set-requires : tie.Need-set-requires
-set-requires c κs = search needs
+set-link-requires : tie.Need-set-link-requires
+set-link-requires c κs = search needs
 
-set-requires-2 : tie.Need-set-requires-2
-set-requires-2 c κs = search needs
+set-link-requires-2 : tie.Need-set-link-requires-2
+set-link-requires-2 c κs = search needs
 
-set-requires-3 : tie.Need-set-requires-3
-set-requires-3 c κs = omega (arith, c .before .before .before .before .before .before .before .before .before .before .before .before .pre .2 .on 0 (omega arith), c .before .before .before .before .before .before .before .before .before .before .before .before .pre .2 .size, c .before .before .before .set2 .kept, c .before .before .before .before .before .before .before .set .kept)
+set-link-requires-3 : tie.Need-set-link-requires-3
+set-link-requires-3 c κs = omega (arith, c .before .before .before .before .before .before .before .before .before .before .before .before .pre .2 .on 0 (omega arith), c .before .before .before .before .before .before .before .before .before .before .before .before .pre .2 .size, c .before .before .before .set-link2 .kept, c .before .before .before .before .before .before .before .set-link .kept)
 
-set-requires-4 : tie.Need-set-requires-4
-set-requires-4 c κs = search needs
+set-link-requires-4 : tie.Need-set-link-requires-4
+set-link-requires-4 c κs = search needs
 
 same-length : tie.Need-same-length
 same-length c = search needs
@@ -39,10 +39,10 @@ insert-spec =
     (tie.spec
     mul-p
     mul-f
-    get-requires
-    set-requires
-    set-requires-2
-    set-requires-3
-    set-requires-4
+    link-requires
+    set-link-requires
+    set-link-requires-2
+    set-link-requires-3
+    set-link-requires-4
     same-length
     returns)

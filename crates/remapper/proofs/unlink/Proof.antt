@@ -11,17 +11,17 @@ mul-p c = search needs
 mul-f : tie.Need-mul-f
 mul-f c = search needs
 
-get-requires : tie.Need-get-requires
-get-requires c κs = search needs
+link-requires : tie.Need-link-requires
+link-requires c κs = search needs
 
-get-requires-2 : tie.Need-get-requires-2
-get-requires-2 c κs = search needs
+link-requires-2 : tie.Need-link-requires-2
+link-requires-2 c κs = search needs
 
-set-requires : tie.Need-set-requires
-set-requires c κs = omega (arith, c .before .before .before .before .before .before .pre .2 .back (c .before .before .before .before .before .before .args .c) (c .before .before .before .before .before .before .pre .1), c .before .before .before .before .before .before .pre .2 .size)
+set-link-requires : tie.Need-set-link-requires
+set-link-requires c κs = omega (arith, c .before .before .before .before .before .before .pre .2 .back (c .before .before .before .before .before .before .args .c) (c .before .before .before .before .before .before .pre .1), c .before .before .before .before .before .before .pre .2 .size)
 
-set-requires-2 : tie.Need-set-requires-2
-set-requires-2 c κs = omega (arith, c .before .before .before .before .before .before .before .before .before .before .pre .2 .on (c .before .before .before .before .before .before .before .before .before .before .args .c) (c .before .before .before .before .before .before .before .before .before .before .pre .1), c .before .before .before .before .before .before .before .before .before .before .pre .2 .size, c .before .before .before .set .kept)
+set-link-requires-2 : tie.Need-set-link-requires-2
+set-link-requires-2 c κs = omega (arith, c .before .before .before .before .before .before .before .before .before .before .pre .2 .on (c .before .before .before .before .before .before .before .before .before .before .args .c) (c .before .before .before .before .before .before .before .before .before .before .pre .1), c .before .before .before .before .before .before .before .before .before .before .pre .2 .size, c .before .before .before .set-link .kept)
 
 same-length : tie.Need-same-length
 same-length c = search needs
@@ -36,9 +36,9 @@ unlink-spec =
     (tie.spec
     mul-p
     mul-f
-    get-requires
-    get-requires-2
-    set-requires
-    set-requires-2
+    link-requires
+    link-requires-2
+    set-link-requires
+    set-link-requires-2
     same-length
     returns)
