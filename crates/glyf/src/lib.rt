@@ -70,7 +70,7 @@ fn write_composite(b: &[u8], n: usize, scratch: &[u16], out: &mut [u8], at: usiz
     }
 }
 
-// What is to be copied, copied.
+// The run's bytes, to their place.
 fn copy_run(glyf: &[u8], run: Run, out: &mut [u8])
     requires { ⌜ RunRoom (now glyf) run (now out) ⌝ }
     ensures { λ _. ⌜ now (out .exit) ≡ withRun (now (glyf .entry)) run (now (out .entry)) ⌝ }

@@ -23,7 +23,7 @@ loop-holds c = (omega arith, refl, refl)
 put-table-requires : tie.Need-put-table-requires Inv-loop μ-loop
 put-table-requires c κs =
     let l = c .before .before .before .before .loop in (
-      record { known = c .before .before .before .loop-test .taken; no-glyf = c .before .before .if1 .taken; no-loca = no-loca-by (l .k) (c .before .if2 .taken) },
+      record { known = omega (arith, c .before .before .before .loop-test .taken); no-glyf = c .before .before .if1 .taken; no-loca = no-loca-by (l .k) (c .before .if2 .taken) },
       c .before .before .before .before .before .before .before .before .pre .0,
       omega (arith, l .inv .1, c .before .before .before .before .before .before .before .before .pre .1),
     )
@@ -41,7 +41,7 @@ loop-again c =
     let a = c .before .before .before .before .before .before .args in
     let body = newBody (a .font .now) (a .s) (a .scratch .now) (a .kept) in
     ⊎-elim
-    (λ w. rw (w .6) (omega (arith, h), w .4 .given ∙ l .inv .1, other-more (a .new) body (l .k) (a .out .now) (record { known = h; no-glyf = w .0 .taken; no-loca = no-loca-by (l .k) (w .1 .taken) }) (l .inv .2) (w .3 .ensures)))
+    (λ w. rw (w .6) (omega (arith, h), w .4 .given ∙ l .inv .1, other-more (a .new) body (l .k) (a .out .now) (record { known = omega (arith, h); no-glyf = w .0 .taken; no-loca = no-loca-by (l .k) (w .1 .taken) }) (l .inv .2) (w .3 .ensures)))
     (λ w. rw (w .1) (omega (arith, h), l .inv .1, ⊎-elim (λ v. loca-skipped (a .new) body (l .k) (a .out .now) (loca-by (l .k) (v .1 .left)) (l .inv .2)) (λ v. glyf-skipped (a .new) body (l .k) (a .out .now) (v .left) (l .inv .2)) (w .0 .came)))
     (c .if1 .came)
 
