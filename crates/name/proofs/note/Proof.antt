@@ -72,7 +72,7 @@ insert-requires c κs =
     let r = c .before .before .before .before .before .before .before .before .before .before .before in
     let f = c .before .before .before .before .find-earlier in
     let s = f .ensures .nowhere (c .before .before .found2 .given .0 .0) (c .before .before .found2 .given .1) in
-    (s .within, omega (arith, used-room (r .args .name .now) (r .args .firsts .now) (r .args .offsets .now) (r .args .order .now) (r .args .used) (r .args .end) (r .args .row) (r .pre), r .pre .lent .third), omega (arith, used-few (r .args .name .now) (r .args .firsts .now) (r .args .offsets .now) (r .args .order .now) (r .args .used) (r .args .end) (r .args .row) (r .pre), r .pre .lent .room .few))
+    (omega (arith, s .within), omega (arith, used-room (r .args .name .now) (r .args .firsts .now) (r .args .offsets .now) (r .args .order .now) (r .args .used) (r .args .end) (r .args .row) (r .pre), r .pre .lent .third), omega (arith, used-few (r .args .name .now) (r .args .firsts .now) (r .args .offsets .now) (r .args .order .now) (r .args .used) (r .args .end) (r .args .row) (r .pre), r .pre .lent .room .few))
 
 add-t21 : tie.Need-add-t21
 add-t21 c =

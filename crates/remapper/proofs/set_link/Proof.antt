@@ -18,7 +18,7 @@ same-length c = search needs
 
 returns : tie.Need-returns
 unfolding relinked
-returns c = cc
+returns c = c .before .before .set .ensures
 
 pub set-link-spec : {M : Type 1} → statement M
 set-link-spec = tie.close (tie.spec add-set sub-set set-requires same-length returns)

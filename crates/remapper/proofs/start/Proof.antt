@@ -1,6 +1,9 @@
 -- The two calls are the definition's.
+use mathlib.Core.List.{List}
+use mathlib.Core.Path.{ap, _∙_}
+use Prim.Native.Nat.{ℕ}
 use borrow.Author.Needs.{needs}
-use Rattle.remapper.specs.Scratch.{started}
+use Rattle.remapper.specs.Scratch.{given, started}
 use Rattle.remapper.proofs.start.Statement.{statement}
 use Rattle.remapper.proofs.start.Tie as tie
 
@@ -18,7 +21,7 @@ same-length c = search needs
 
 returns : tie.Need-returns
 unfolding started
-returns c = cc
+returns c = c .before .before .give .ensures ∙ ap (λ (t : List ℕ). given (c .before .before .before .before .before .before .before .before .before .args .n) t 0 0) (c .before .before .before .before .before .before .zeros .ensures)
 
 pub start-spec : {M : Type 1} → statement M
 start-spec = tie.close (tie.spec mul-zeros zeros-requires give-requires same-length returns)
