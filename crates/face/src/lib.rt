@@ -143,7 +143,7 @@ fn place_of(font: &[u8], row: &[u8]) -> Place
     requires { ⌜ 16 ≤ length (now row) ⌝ }
     ensures { λ r. ⌜ r ≡ rowPlace (now (font .entry)) (rowOf (now (row .entry))) ⌝ }
 {
-    let extent = read::reader::extent_at(row, 0);
+    let extent = read::reader::extent_at(row);
     let offset = extent.offset as usize;
     let length = extent.length as usize;
     if read::holds(font, offset, length) {
