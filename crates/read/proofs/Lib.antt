@@ -1,1 +1,2 @@
 pub mod Loans
+pub mod Skipping

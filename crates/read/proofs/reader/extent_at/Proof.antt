@@ -45,7 +45,8 @@ use Rattle.model.specs.Font.{rowOf}
 use Rattle.read.specs.Reading.{extentOf}
 use Rattle.read.specs.declared.reader.Reader.{Reader}
 use Rattle.read.specs.declared.reader.Extent.{Extent}
-use Rattle.read.proofs.Loans.{R, Cell, Own, Lies, ref, Mut, Skip, lie, rise, tokens, MutLoan, lend-mut, mut-back, to-skip, goes-skip, Skipped, skip-said}
+use Rattle.read.proofs.Loans.{R, Cell, Own, Lies, ref, Mut, lie, rise, tokens, MutLoan, lend-mut, mut-back}
+use Rattle.read.proofs.Skipping.{Skip, skip-known, to-skip, goes-skip, Skipped, skip-said}
 use Rattle.read.proofs.reader.Reader as T
 use Rattle.read.proofs.reader.Reader.Laws as T′
 use Rattle.read.proofs.reader.Extent as X
@@ -54,9 +55,7 @@ use Rattle.read.proofs.reader.Reader.new as new
 use Rattle.read.proofs.reader.Reader.new.Symbol as new-def
 use Rattle.read.proofs.reader.Reader.new.Symbol.{name as #new}
 use Rattle.read.proofs.reader.Reader.new.Met as new-thm
-use Rattle.read.proofs.reader.Reader.skip_bytes.Symbol as skip-def
 use Rattle.read.proofs.reader.Reader.skip_bytes.Symbol.{name as #skip}
-use Rattle.read.proofs.reader.Reader.skip_bytes.Met as skip-thm
 use Rattle.read.proofs.reader.Reader.read_u32 as read-u32
 use Rattle.read.proofs.reader.Reader.read_u32.Symbol as read-u32-def
 use Rattle.read.proofs.reader.Reader.read_u32.Symbol.{name as #read-u32}
@@ -218,5 +217,5 @@ extent-at-spec 𝓤 H 𝓜 𝓖 𝓡 =
     (tables 𝓤 H 𝓜 𝓡 code.env .C) (tables 𝓤 H 𝓜 𝓡 code.env .Λ) #extent-at code.function (code.unfolded 𝓤 H 𝓜 𝓡)
     (extent-at-meets 𝓤 H (𝓖 .A) (givenOf 𝓤 H 𝓜 𝓖) (𝓜 .mem) (𝓡 .run) (tablesOf 𝓤 H 𝓜 (tables 𝓤 H 𝓜 𝓡 code.env))
     (cited 𝓤 H (New 𝓤 H (𝓖 .A) (𝓜 .mem) (𝓡 .run)) 𝓜 𝓡 code.env #new new-def.routine code.calls-read·reader·Reader·new (new-thm.met 𝓤 H 𝓜 𝓖 𝓡))
-    (cited 𝓤 H (Skip 𝓤 H (𝓖 .A) (𝓜 .mem) (𝓡 .run)) 𝓜 𝓡 code.env #skip skip-def.routine code.calls-read·reader·Reader·skip-bytes (skip-thm.met 𝓤 H 𝓜 𝓖 𝓡))
+    (skip-known 𝓤 H 𝓜 𝓖 𝓡 code.env code.calls-read·reader·Reader·skip-bytes)
     (cited 𝓤 H (ReadU32 𝓤 H (𝓖 .A) (𝓜 .mem) (𝓡 .run)) 𝓜 𝓡 code.env #read-u32 read-u32-def.routine code.calls-read·reader·Reader·read-u32 (read-u32-thm.met 𝓤 H 𝓜 𝓖 𝓡)))

@@ -45,7 +45,8 @@ use Rattle.model.specs.Bytes.{word32}
 use Rattle.model.proofs.Bytes.{word32-drop}
 use Rattle.read.specs.Reading.{further}
 use Rattle.read.specs.declared.reader.Reader.{Reader}
-use Rattle.read.proofs.Loans.{behind, R, D, L, Cell, Own, Lies, ref, Shr, Skip, lie, rise, tokens, ShrLoan, lend-shr, shr-back, MutLoan, lend-mut, mut-back, to-skip, goes-skip, Skipped, skip-said}
+use Rattle.read.proofs.Loans.{behind, R, D, L, Cell, Own, Lies, ref, Shr, lie, rise, tokens, ShrLoan, lend-shr, shr-back, MutLoan, lend-mut, mut-back}
+use Rattle.read.proofs.Skipping.{Skip, skip-known, to-skip, goes-skip, Skipped, skip-said}
 use Rattle.read.proofs.reader.Reader.Laws as T′
 use Rattle.read.proofs.u32_at as u32-at
 use Rattle.read.proofs.u32_at.Symbol as u32-at-def
@@ -55,9 +56,7 @@ use Rattle.read.proofs.reader.Reader.tail as tail
 use Rattle.read.proofs.reader.Reader.tail.Symbol as tail-def
 use Rattle.read.proofs.reader.Reader.tail.Symbol.{name as #tail}
 use Rattle.read.proofs.reader.Reader.tail.Met as tail-thm
-use Rattle.read.proofs.reader.Reader.skip_bytes.Symbol as skip-def
 use Rattle.read.proofs.reader.Reader.skip_bytes.Symbol.{name as #skip}
-use Rattle.read.proofs.reader.Reader.skip_bytes.Met as skip-thm
 use Rattle.read.proofs.reader.Reader.read_u32.Key.{name as #read-u32}
 use Rattle.read.proofs.reader.Reader.read_u32 as read-u32
 use Rattle.read.proofs.reader.Reader.read_u32.Statement as stated
@@ -184,4 +183,4 @@ read-u32-spec 𝓤 H 𝓜 𝓖 𝓡 =
     (read-u32-meets 𝓤 H (𝓖 .A) (givenOf 𝓤 H 𝓜 𝓖) (𝓜 .mem) (𝓡 .run) (tablesOf 𝓤 H 𝓜 (tables 𝓤 H 𝓜 𝓡 code.env))
     (cited 𝓤 H (Tail 𝓤 H (𝓖 .A) (𝓜 .mem) (𝓡 .run)) 𝓜 𝓡 code.env #tail tail-def.routine code.calls-read·reader·Reader·tail (tail-thm.met 𝓤 H 𝓜 𝓖 𝓡))
     (cited 𝓤 H (U32At 𝓤 H (𝓖 .A) (𝓜 .mem) (𝓡 .run)) 𝓜 𝓡 code.env #u32-at u32-at-def.routine code.calls-read·u32-at (u32-at-thm.met 𝓤 H 𝓜 𝓖 𝓡))
-    (cited 𝓤 H (Skip 𝓤 H (𝓖 .A) (𝓜 .mem) (𝓡 .run)) 𝓜 𝓡 code.env #skip skip-def.routine code.calls-read·reader·Reader·skip-bytes (skip-thm.met 𝓤 H 𝓜 𝓖 𝓡)))
+    (skip-known 𝓤 H 𝓜 𝓖 𝓡 code.env code.calls-read·reader·Reader·skip-bytes))
