@@ -81,7 +81,7 @@ module _ (font : Bytes) (t : Places) (n kept : ℕ) (before : List ℕ) where
       record {
         size = m .size ∙ ap (λ (b : Bytes). mapRes length (cutPost b (take kept before))) q ∙ present-size font t 9 (λ b. cutPost b (take kept before)) e;
         untouched = record { same-length = m .same-length; front = m .front; back = m .back };
-        index = λ h c p. subst (λ (x : Bytes). Indexed x after n) (q ∙ ap bytesIn (rw e at p)) (m .index h);
+        index = λ h c p. subst (λ (x : Bytes). Indexed x after n kept) (q ∙ ap bytesIn (rw e at p)) (m .index h);
       }
 
 -- a step refuses, or passes and leaves the rest

@@ -64,7 +64,7 @@ pub record Kept (n : ℕ) (before after : List ℕ) : Type 0 where
 pub record PostSized (t : Tables) (n kept : ℕ) (before after : List ℕ) (r : Size) : Type 0 where
   pub size : sizeOf r ≡ mapRes lengthIn (optional (λ b. cutPost b (take kept before)) (t .post))
   pub untouched : Kept n before after
-  pub index : isOk (sizeOf r) ≡ true → (b : Bytes) → t .post ≡ some b → Indexed b after n
+  pub index : isOk (sizeOf r) ≡ true → (b : Bytes) → t .post ≡ some b → Indexed b after n kept
 
 -- what is left of steps 6 to 8 after each
 unfoldable pub afterPost : Tables → List ℕ → Res CutFont
@@ -88,7 +88,7 @@ pub record Planned (m : Res CutFont) (t : Tables) (n kept : ℕ) (before after :
   pub refusal : p .refusal ≡ refusalOf m
   pub found : p .fits ≡ true → Found t (take kept before) p
   pub untouched : Kept n before after
-  pub index : p .fits ≡ true → (b : Bytes) → t .post ≡ some b → Indexed b after n
+  pub index : p .fits ≡ true → (b : Bytes) → t .post ≡ some b → Indexed b after n kept
 
 -- steps 6 and 7 and 8 have passed, with these sizes
 abbrev pub MetricsPassed : Tables → List ℕ → ℕ → ℕ → Type 0

@@ -1,19 +1,21 @@
--- The scratch when the names' places are in it: the roster and what lies behind are as they were, and the part is the index.
+-- The scratch when post is measured: the roster and what lies behind are as they were, and what is between is what `write` goes by.
 use mathlib.Core.Path.{_≡_, refl, sym, ap, _∙_}
 use mathlib.Core.Bool.{true}
 use mathlib.Core.List.{List, []}
 use Prim.Native.Nat.{ℕ, _+_, _*_, _-_, _≤_}
 use native.Mathlib.Omega.{arith}
-use lib.ListN.{length, take, drop, length-take, length-drop}
-use lib.Seq.{take-at, drop-at, length-take-le, take-take}
-use borrow.Rule.Slice.PartMut.{putMid, take-put, drop-put, same-len-mid}
+use lib.ListN.{length, take, drop}
+use lib.Seq.{length-take-le, take-take}
 use Rattle.model.specs.Res.{refuse, ok, mapRes, isOk, valueOf}
-use Rattle.model.specs.Bytes.{part, word32}
+use Rattle.model.specs.Bytes.{word32}
 use Rattle.model.specs.Post.{cutPost}
 use Rattle.model.proofs.Res.{true-false, map-inv}
 use Rattle.answer.specs.declared.Size.the-variants.{Bytes, No}
-use Rattle.post.specs.Post.{Index, Named, Measured, postBytes}
+use Rattle.post.specs.Post.{Named, Measured, postBytes}
+use Rattle.post.specs.Found.{Sought}
 use Rattle.post.proofs.Cut.{named-cut}
+use Rattle.post.proofs.Grow.{length-postBytes}
+use Rattle.post.proofs.Found.{behind-roster}
 
 pub measured-refused : (b : List ℕ) (s : List ℕ) (n kept k : ℕ) → cutPost b (take kept s) ≡ refuse k → Measured b s n kept (No k) s
 measured-refused b s n kept k e =
@@ -23,35 +25,19 @@ pub measured-copied : (b : List ℕ) (s : List ℕ) (n kept : ℕ) → cutPost b
 measured-copied b s n kept e v =
     record { size = sym (ap (mapRes length) e); same-length = refl; front = refl; back = refl; index = λ t. record { index = λ w. absurd (v w) } }
 
--- places put into the free half
-module _ (s room : List ℕ) (n : ℕ) (h : 4 * n ≤ length s) (l : length room ≡ 2 * n) where
-  pub mid-room : part (putMid (2 * n) (2 * n) s room) (2 * n) (2 * n) ≡ room
-  mid-room =
-      ap (take (2 * n)) (drop-at (take (2 * n) s) _ (2 * n) (length-take-le (2 * n) s (omega arith)))
-      ∙ take-at room _ (2 * n) l
-
-  pub mid-roster : (kept : ℕ) → kept ≤ n → take kept (putMid (2 * n) (2 * n) s room) ≡ take kept s
-  mid-roster kept k =
-      sym (take-take kept (2 * n) (putMid (2 * n) (2 * n) s room) (omega arith))
-      ∙ ap (take kept) (take-put (2 * n) (2 * n) s room (omega arith))
-      ∙ take-take kept (2 * n) s (omega arith)
-
-  pub measured-cut : (b : List ℕ) (kept r : ℕ) → kept ≤ n → Named b (take kept s) → Index b room
-      → r ≡ length (postBytes b (take kept (putMid (2 * n) (2 * n) s room)))
-      → Measured b s n kept (Bytes r) (putMid (2 * n) (2 * n) s room)
-  measured-cut b kept r k m x e =
-      let half : 4 * n - 2 * n ≡ 2 * n = omega arith in
-      record {
-        size = ap ok (e ∙ ap (λ (ids : List ℕ). length (postBytes b ids)) (mid-roster kept k)) ∙ sym (ap (mapRes length) (named-cut b (take kept s) m));
-        same-length = same-len-mid (2 * n) (2 * n) s room (l ∙ sym (length-take-le (2 * n) (drop (2 * n) s) (simp length-drop (omega arith))));
-        front = take-put (2 * n) (2 * n) s room (omega arith);
-        back = rw half at (drop-put (2 * n) (4 * n) s room (omega arith) h (l ∙ sym half));
-        index = λ t. record { index = λ w. rw mid-room x };
-      }
-
--- as many numbers come back as were lent
-pub room-length : (s room : List ℕ) (n : ℕ) → 4 * n ≤ length s → length room ≡ length (take (2 * n + 2 * n - 2 * n) (drop (2 * n) s)) → length room ≡ 2 * n
-room-length s room n h e = e ∙ simp (length-take, length-drop) (omega arith)
+-- the names found, and the rest of the table
+pub measured-cut : (b s after : List ℕ) (n kept r : ℕ) → kept ≤ n → 4 * n ≤ length s → Named b (take kept s) → Sought b n kept s r after
+    → Measured b s n kept (Bytes (34 + 2 * kept + r)) after
+measured-cut b s after n kept r k h m x =
+    let l : length (take kept s) ≡ kept = length-take-le kept s (omega arith) in
+    let new : 34 + 2 * kept + r ≡ length (postBytes b (take kept s)) = omega (arith, x .size, length-postBytes b (take kept s) (omega (arith, m .array))) in
+    record {
+      size = ap ok new ∙ sym (ap (mapRes length) (named-cut b (take kept s) m));
+      same-length = x .behind .same-length;
+      front = x .behind .front;
+      back = x .behind .back;
+      index = λ t. record { index = λ w. rw (behind-roster n n s after (x .behind) kept (omega arith)) (x .located) };
+    }
 
 -- what `measure` ensures is what `write` requires, of the scratch as it is then
 module _ (b s after : List ℕ) (n kept l : ℕ) (h : kept ≤ n) (m : Measured b s n kept (Bytes l) after) where

@@ -87,6 +87,12 @@ stands-next b p k s h = record { rest = rest-next (namesOf b) k _ (s .rest ∙ n
 pub stands-stays : (b : Bytes) (p k : ℕ) → Stands b p k → sizeAt b p ≡ 0 → Stands b p (suc k)
 stands-stays b p k s h = record { rest = rest-next (namesOf b) k _ (s .rest ∙ names-gone b p h) ∙ sym (names-gone b p h) }
 
+-- past the table there are as few bytes as at its end
+pub stands-end : (b : Bytes) (p k : ℕ) → length b ≤ p → Stands b p k → Stands b (length b) k
+stands-end b p k h s =
+    let e : length b ≤ length b = omega arith in
+    record { rest = s .rest ∙ ap (names (length b)) (drop-of-length-le b h ∙ sym (drop-of-length-le b e)) }
+
 -- what is stored for name k: the bytes from its place on, or an empty name
 pub stands-name : (b : Bytes) (p k : ℕ) → Stands b p k → pascal (getD (namesOf b) k []) ≡ sizeAt b p ∷ part b (p + 1) (sizeAt b p)
 stands-name b p k s =

@@ -1,2 +1,3 @@
 pub mod Post
 pub mod Chains
+pub mod Found

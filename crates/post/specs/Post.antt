@@ -1,11 +1,11 @@
 -- What post's code goes by: where a name stands in the list of names, which places the scratch holds, and the new table glyph by glyph.
 use mathlib.Core.Path.{_≡_}
-use mathlib.Core.Bool.{true}
+use mathlib.Core.Bool.{Bool, true, false}
 use mathlib.Core.List.{List, [], _++_, map, flatMap}
 use Prim.Native.Nat.{ℕ, zero, suc, _+_, _*_, _-_, _%_, _/_, _<_, _≤_}
 use lib.Dec.{ltb, leb, eqb}
 use lib.ListN.{length, getD, take, drop, set}
-use Rattle.model.specs.Res.{Res, refuse, ok, pick, mapRes, isOk, each}
+use Rattle.model.specs.Res.{Res, refuse, ok, pick, both, either, mapRes, isOk, each}
 use Rattle.model.specs.Bytes.{Bytes, word16, word32, be16, part}
 use Rattle.model.specs.Post.{names, namesOf, newIndexes, newNames, postIndex, pascal, cutPost}
 use Rattle.answer.specs.declared.Size.{Size}
@@ -59,14 +59,39 @@ pub record Index (b : Bytes) (room : List ℕ) : Type 0 where
   pub strided : 0 < getD room 0 0 → Strided b room
   pub chained : getD room 0 0 ≡ 0 → Chained b room
 
--- what `measure` leaves for `write`: the index, in the scratch's places 2n to 4n
-pub record Indexed (b : Bytes) (scratch : List ℕ) (n : ℕ) : Type 0 where
-  pub index : word32 b 0 ≡ 0x00020000 → Index b (part scratch (2 * n) (2 * n))
-
--- a glyph's index, the names that are stored for glyphs, and a glyph's part of their bytes
+-- a glyph's index
 unfoldable pub indexOf : Bytes → ℕ → ℕ
 indexOf b g = word16 b (34 + 2 * g)
 
+-- Where the name of glyph g, roster place j, is found: the part is either the found places, two numbers for each roster place (of an index of 257
+-- or below nothing is said), or the index.
+pub record PlaceAt (b : Bytes) (found : Bool) (room : List ℕ) (j g : ℕ) : Type 0 where
+  pub place : found ≡ true → 257 < indexOf b g → (2 * j + 1 < length room) × Stands b (placeIn room j) (indexOf b g - 258)
+  pub index : found ≡ false → Index b room
+
+pub record Located (b : Bytes) (ids : List ℕ) (found : Bool) (room : List ℕ) : Type 0 where
+  pub places : (j : ℕ) → j < length ids → PlaceAt b found room j (getD ids j 0)
+
+-- Which of the two it is: the found places if few glyphs are kept, or if there may be far more names than glyphs. They end the scratch's places 2n to
+-- 4n; the index is all of these.
+unfoldable pub manyNames : ℕ → ℕ → Bool
+manyNames len n = both (ltb n 2048) (ltb (32 * n) len)
+
+unfoldable pub placedFor : ℕ → ℕ → ℕ → Bool
+placedFor len n kept = either (leb (4 * kept) n) (manyNames len n)
+
+unfoldable pub roomStart : Bool → ℕ → ℕ → ℕ
+roomStart found n kept = pick found (4 * n - 2 * kept) (2 * n)
+
+-- the scratch's part that `write` goes by
+unfoldable pub roomOf : Bool → ℕ → ℕ → List ℕ → List ℕ
+roomOf found n kept scratch = part scratch (roomStart found n kept) (4 * n - roomStart found n kept)
+
+-- what `measure` leaves for `write`
+pub record Indexed (b : Bytes) (scratch : List ℕ) (n kept : ℕ) : Type 0 where
+  pub index : word32 b 0 ≡ 0x00020000 → Located b (take kept scratch) (placedFor (length b) n kept) (roomOf (placedFor (length b) n kept) n kept scratch)
+
+-- the names that are stored for glyphs, and a glyph's part of their bytes
 unfoldable pub storedNames : Bytes → List ℕ → List Bytes
 storedNames b ids = newNames (namesOf b) (map (indexOf b) ids)
 
@@ -109,10 +134,10 @@ Tells b ids (No k) = cutPost b ids ≡ refuse k
 Tells b ids Copied = (cutPost b ids ≡ ok b) × (word32 b 0 ≡ 0x00020000 → ⊥)
 Tells b ids (Wanted want) = Named b ids × (want ≤ 65278)
 
--- a measured table: its size or the refusal; the scratch, of which only the places 2n to 4n may have changed; the index
+-- a measured table: its size or the refusal; the scratch, of which only the places 2n to 4n may have changed; what `write` goes by
 pub record Measured (b : Bytes) (scratch : List ℕ) (n kept : ℕ) (r : Size) (after : List ℕ) : Type 0 where
   pub size : sizeOf r ≡ mapRes length (cutPost b (take kept scratch))
   pub same-length : length after ≡ length scratch
   pub front : take (2 * n) after ≡ take (2 * n) scratch
   pub back : drop (4 * n) after ≡ drop (4 * n) scratch
-  pub index : isOk (sizeOf r) ≡ true → Indexed b after n
+  pub index : isOk (sizeOf r) ≡ true → Indexed b after n kept

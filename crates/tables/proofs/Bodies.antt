@@ -47,7 +47,7 @@ HmtxRoom hhea hmtx r n out =
 abbrev pub PostRoom : Bytes → List ℕ → ℕ → ℕ → Bytes → Type 0
 PostRoom post scratch n kept out =
     ((kept ≤ 65535) × (kept ≤ n) × (n ≤ 65536) × (4 * n ≤ length scratch))
-    × (Indexed post scratch n
+    × (Indexed post scratch n kept
     × ((isOk (cutPost post (take kept scratch)) ≡ true) × (length (valueOf [] (cutPost post (take kept scratch))) ≤ length out)))
 
 -- no step refuses

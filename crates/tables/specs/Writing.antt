@@ -26,7 +26,7 @@ pub record Ran (font : Bytes) (s : Source) (scratch : List ℕ) (kept : ℕ) (p 
   pub opens : Opens font s
   pub walked : Walked font s scratch kept
   pub found : Found (fontOf font s) (take kept scratch) p
-  pub index : (b : Bytes) → (fontOf font s) .post ≡ some b → Indexed b scratch (s .n)
+  pub index : (b : Bytes) → (fontOf font s) .post ≡ some b → Indexed b scratch (s .n) kept
   pub passed : isOk (rewrite (fontOf font s) (take kept scratch)) ≡ true
 
 -- and the new tables have their places, in a file that is not too long

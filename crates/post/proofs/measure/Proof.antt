@@ -1,10 +1,9 @@
 -- One law of Scratch for each outcome of the tests.
-use Rattle.post.proofs.Scratch.{room-length, measured-refused, measured-copied, measured-cut, mid-room, mid-roster}
-use Prim.Native.Nat.{_≤_, _*_}
+use Rattle.post.proofs.Grow.{names-bounded}
+use Rattle.post.proofs.Scratch.{measured-refused, measured-copied, measured-cut}
 use mathlib.Core.Path.{sym}
 use native.Mathlib.Omega.{arith}
-use native.Mathlib.Nat.{add-sub-cancel-left}
-use lib.ListN.{length, length-take, length-drop}
+use lib.ListN.{take}
 use lib.Seq.{length-take-le}
 use borrow.Author.Needs.{needs}
 use Rattle.post.proofs.measure.Statement.{statement}
@@ -30,45 +29,23 @@ enum-told c = search needs
 enum-known-want : tie.Need-enum-known-want
 enum-known-want c = search needs
 
-mul-from : tie.Need-mul-from
-mul-from c = search needs
+mul-t12 : tie.Need-mul-t12
+mul-t12 c = search needs
 
-mul-end : tie.Need-mul-end
-mul-end c = search needs
+add-t13 : tie.Need-add-t13
+add-t13 c = search needs
 
-add-end : tie.Need-add-end
-add-end c = search needs
+find-names-requires : tie.Need-find-names-requires
+find-names-requires c κs =
+    let p = c .before .before .before .before .before .before .before .before .pre in
+    let t = rw (c .before .before .want .given .1) at (c .before .before .before .before .test .ensures) in
+    ((t .0, t .1, p .1), search needs)
 
-mul-fill : tie.Need-mul-fill
-mul-fill c = search needs
-
-sub-fill : tie.Need-sub-fill
-sub-fill c = search needs
-
-part-fill-start : tie.Need-part-fill-start
-part-fill-start c = search needs
-
-part-fill-end : tie.Need-part-fill-end
-part-fill-end c = search needs
-
-fill-requires : tie.Need-fill-requires
-fill-requires c κs =
-    let a = c .before .before .before .before .before .before .before .before .args in
-    let g = c .before .before .want .given in
-    let t = rw (g .1) at (c .before .before .before .before .test .ensures) in
-    ((t .0 .array, c .before .before .before .before .before .before .before .before .pre .1), (t .1, simp (length-take, length-drop) (omega arith), simp (length-take, length-drop) (omega arith)))
-
-new-size-requires : tie.Need-new-size-requires
-new-size-requires c κs =
-    let a = c .before .before .before .before .before .before .before .before .before .before .before .before .args in
-    let s = a .scratch .now in
-    let room = c .before .before .before .fill .last .1 .1 .1 .0 in
-    let h : 4 * a .n ≤ length s = omega arith in
-    let l = room-length s room (a .n) h (c .before .before .scratch .given .0) in
-    let t = rw (c .before .before .before .before .before .before .want .given .1) at (c .before .before .before .before .before .before .before .before .test .ensures) in (
-      rw (add-sub-cancel-left (2 * a .n) (2 * a .n), mid-roster s room (a .n) h l (a .kept) (omega arith)) (t .0),
-      (rw (add-sub-cancel-left (2 * a .n) (2 * a .n), mid-room s room (a .n) h l) (c .before .before .before .fill .ensures), search needs),
-    )
+add-t17 : tie.Need-add-t17
+add-t17 c =
+    let a = c .before .before .before .before .before .before .before .before .before .before .before .args in
+    let ids = take (a .kept) (a .scratch .now) in
+    omega (arith, c .before .before .find-names .ensures .size, names-bounded (a .post .now) ids (omega arith), length-take-le (a .kept) (a .scratch .now) (omega arith))
 
 same-length : tie.Need-same-length
 same-length c = search needs
@@ -93,15 +70,9 @@ same-length-3 c = search needs
 
 returns-3 : tie.Need-returns-3
 returns-3 c =
-    let a = c .before .before .before .before .before .before .before .before .before .before .before .before .before .args in
-    let s = a .scratch .now in
-    let room = c .before .before .before .before .fill .last .1 .1 .1 .0 in
-    let h : 4 * a .n ≤ length s = omega arith in
-    let l = room-length s room (a .n) h (c .before .before .before .scratch .given .0) in
-    let t = rw (c .before .before .before .before .before .before .before .want .given .1) at (c .before .before .before .before .before .before .before .before .before .test .ensures) in
-    let r = rw (add-sub-cancel-left (2 * a .n) (2 * a .n)) at (c .new-size .ensures) in
-    rw (add-sub-cancel-left (2 * a .n) (2 * a .n))
-    (measured-cut s room (a .n) h l (a .post .now) (a .kept) (c .new-size .result) (omega arith) (t .0) (c .before .before .before .before .fill .ensures) r)
+    let a = c .before .before .before .before .before .before .before .before .before .before .before .args in
+    let t = rw (c .before .before .before .before .before .want .given .1) at (c .before .before .before .before .before .before .before .test .ensures) in
+    measured-cut (a .post .now) (a .scratch .now) _ (a .n) (a .kept) (c .before .before .find-names .result) (omega arith) (omega arith) (t .0) (c .before .before .find-names .ensures)
 
 pub measure-spec : {M : Type 1} → statement M
 measure-spec =
@@ -113,15 +84,10 @@ measure-spec =
     enum-known-k
     enum-told
     enum-known-want
-    mul-from
-    mul-end
-    add-end
-    mul-fill
-    sub-fill
-    part-fill-start
-    part-fill-end
-    fill-requires
-    new-size-requires
+    mul-t12
+    add-t13
+    find-names-requires
+    add-t17
     same-length
     returns
     same-length-2

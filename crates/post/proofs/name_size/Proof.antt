@@ -1,53 +1,91 @@
--- The name at the place that `name_at` found is the one of the index.
-use mathlib.Core.Path.{ap, sym}
+-- The name at the place that was looked up is the one of the index; what is put away is that place.
+use Prim.Native.Nat.{_-_}
+use mathlib.Core.Path.{refl, ap, sym}
 use native.Mathlib.Omega.{arith}
-use lib.ListN.{length}
+use lib.ListN.{length, getD}
 use Rattle.post.specs.Post.{Stands, indexOf}
 use Rattle.post.proofs.Grow.{name-none, length-stored, name-bounded}
-use Prim.Native.Nat.{_-_}
+use Rattle.post.proofs.Found.{behind-same}
 use borrow.Author.Needs.{needs}
 use Rattle.post.proofs.name_size.Statement.{statement}
 use Rattle.post.proofs.name_size.Tie as tie
+
+mul-index-at : tie.Need-mul-index-at
+mul-index-at c = search needs
+
+slice-read-index-at : tie.Need-slice-read-index-at
+slice-read-index-at c = search needs
 
 index-at-requires : tie.Need-index-at-requires
 index-at-requires c κs = search needs
 
 returns : tie.Need-returns
 returns c =
-    let a = c .before .before .before .before .args in
-    sym (ap length (name-none (a .post .now) (a .g) (omega arith)))
+    let a = c .before .before .before .before .before .before .args in
+    let s = a .scratch .now in
+    let i = c .before .index-at in
+    record {
+      size = sym (ap length (name-none (a .post .now) (getD s (a .j) 0) (omega arith)));
+      behind = behind-same (a .n) (a .at) s;
+      others = λ k e. refl;
+      here = λ h q. absurd (omega (arith, i .ensures .0));
+    }
 
-sub-name-at : tie.Need-sub-name-at
-sub-name-at c = search needs
+sub-look-up : tie.Need-sub-look-up
+sub-look-up c = search needs
 
-name-at-requires : tie.Need-name-at-requires
-name-at-requires c κs = search needs
+look-up-requires : tie.Need-look-up-requires
+look-up-requires c κs =
+    let p = c .before .before .before .before .before .before .before .pre in
+    ((p .0 .0, omega arith), omega arith)
+
+put-away-requires : tie.Need-put-away-requires
+put-away-requires c κs =
+    let p = c .before .before .before .before .before .before .before .before .before .pre in
+    (omega arith, p .1 .1 .1)
 
 size-at-requires : tie.Need-size-at-requires
 size-at-requires c κs = search needs
 
 add-result : tie.Need-add-result
 add-result c =
-    let a = c .before .before .before .before .before .before .args in
-    let i = c .before .before .before .index-at in
-    let s : Stands (a .post .now) (c .before .name-at .result) (indexOf (a .post .now) (a .g) - 258) = rw (i .ensures .0) at (c .before .name-at .ensures) in
-    omega (arith, name-bounded (a .post .now) (a .g), length-stored (a .post .now) (a .g) (c .before .name-at .result) (omega arith) s)
+    let a = c .before .before .before .before .before .before .before .before .before .before .before .before .before .args in
+    let g = getD (a .scratch .now) (a .j) 0 in
+    let i = c .before .before .before .before .before .before .before .before .index-at in
+    let p = c .before .before .before .before .before .look-up in
+    let s : Stands (a .post .now) (p .result) (indexOf (a .post .now) g - 258) = rw (i .ensures .0) at (p .ensures) in
+    omega (arith, name-bounded (a .post .now) g, length-stored (a .post .now) g (p .result) (omega arith) s)
+
+same-length : tie.Need-same-length
+same-length c = search needs
 
 returns-2 : tie.Need-returns-2
 returns-2 c =
-    let a = c .before .before .before .before .before .before .args in
-    let i = c .before .before .before .index-at in
-    let s : Stands (a .post .now) (c .before .name-at .result) (indexOf (a .post .now) (a .g) - 258) = rw (i .ensures .0) at (c .before .name-at .ensures) in
-    omega (arith, length-stored (a .post .now) (a .g) (c .before .name-at .result) (omega arith) s)
+    let a = c .before .before .before .before .before .before .before .before .before .before .before .before .before .args in
+    let g = getD (a .scratch .now) (a .j) 0 in
+    let i = c .before .before .before .before .before .before .before .before .index-at in
+    let p = c .before .before .before .before .before .look-up in
+    let s : Stands (a .post .now) (p .result) (indexOf (a .post .now) g - 258) = rw (i .ensures .0) at (p .ensures) in
+    let w = c .before .before .before .put-away .ensures in
+    record {
+      size = omega (arith, length-stored (a .post .now) g (p .result) (omega arith) s);
+      behind = w .behind;
+      others = w .others;
+      here = λ h q. w .here h _ s;
+    }
 
 pub name-size-spec : {M : Type 1} → statement M
 name-size-spec =
     tie.close
     (tie.spec
+    mul-index-at
+    slice-read-index-at
     index-at-requires
     returns
-    sub-name-at
-    name-at-requires
+    sub-look-up
+    look-up-requires
+    put-away-requires
     size-at-requires
     add-result
+    same-length
     returns-2)

@@ -19,11 +19,13 @@ returns c =
     let e = name-none (a .post .now) (a .g) (omega arith) in
     (rw e (put-nothing (a .out .now) (a .at)), omega (arith, ap length e))
 
-sub-name-at : tie.Need-sub-name-at
-sub-name-at c = search needs
+sub-place-of : tie.Need-sub-place-of
+sub-place-of c = search needs
 
-name-at-requires : tie.Need-name-at-requires
-name-at-requires c κs = search needs
+place-of-requires : tie.Need-place-of-requires
+place-of-requires c κs =
+    let p = c .before .before .before .before .before .pre .0 in
+    (λ f. rw (c .before .index-at .ensures .0) (p .place f (omega arith)), (p .index, omega arith))
 
 size-at-requires : tie.Need-size-at-requires
 size-at-requires c κs = search needs
@@ -31,12 +33,12 @@ size-at-requires c κs = search needs
 slice-write-out : tie.Need-slice-write-out
 slice-write-out c =
     let a = c .before .before .before .before .before .before .before .before .args in
-    omega (arith, length-stored (a .post .now) (a .g) (c .before .before .name-at .result) (omega arith) (rw (c .before .before .before .before .index-at .ensures .0) at (c .before .before .name-at .ensures)))
+    omega (arith, length-stored (a .post .now) (a .g) (c .before .before .place-of .result) (omega arith) (rw (c .before .before .before .before .index-at .ensures .0) at (c .before .before .place-of .ensures)))
 
 add-result : tie.Need-add-result
 add-result c =
     let a = c .before .before .before .before .before .before .before .before .args in
-    omega (arith, length-stored (a .post .now) (a .g) (c .before .before .name-at .result) (omega arith) (rw (c .before .before .before .before .index-at .ensures .0) at (c .before .before .name-at .ensures)))
+    omega (arith, length-stored (a .post .now) (a .g) (c .before .before .place-of .result) (omega arith) (rw (c .before .before .before .before .index-at .ensures .0) at (c .before .before .place-of .ensures)))
 
 same-length : tie.Need-same-length
 same-length c = search needs
@@ -44,15 +46,15 @@ same-length c = search needs
 returns-2 : tie.Need-returns-2
 returns-2 c =
     let a = c .before .before .before .before .before .before .before .before .args in
-    let s : Stands (a .post .now) (c .before .before .name-at .result) (indexOf (a .post .now) (a .g) - 258) = rw (c .before .before .before .before .index-at .ensures .0) at (c .before .before .name-at .ensures) in
-    let l = length-stored (a .post .now) (a .g) (c .before .before .name-at .result) (omega arith) s in
-    (rw (name-missing (a .post .now) (a .g) (c .before .before .name-at .result) (omega arith) s (omega arith)) (put-byte (a .out .now) (a .at) 0 (omega arith)), omega arith)
+    let s : Stands (a .post .now) (c .before .before .place-of .result) (indexOf (a .post .now) (a .g) - 258) = rw (c .before .before .before .before .index-at .ensures .0) at (c .before .before .place-of .ensures) in
+    let l = length-stored (a .post .now) (a .g) (c .before .before .place-of .result) (omega arith) s in
+    (rw (name-missing (a .post .now) (a .g) (c .before .before .place-of .result) (omega arith) s (omega arith)) (put-byte (a .out .now) (a .at) 0 (omega arith)), omega arith)
 
 add-end : tie.Need-add-end
-add-end c = omega (arith, size-inside (c .before .before .before .before .before .before .before .before .args .post .now) (c .before .before .name-at .result) (omega arith))
+add-end c = omega (arith, size-inside (c .before .before .before .before .before .before .before .before .args .post .now) (c .before .before .place-of .result) (omega arith))
 
 add-end-2 : tie.Need-add-end-2
-add-end-2 c = omega (arith, size-inside (c .before .before .before .before .before .before .before .before .args .post .now) (c .before .before .name-at .result) (omega arith))
+add-end-2 c = omega (arith, size-inside (c .before .before .before .before .before .before .before .before .args .post .now) (c .before .before .place-of .result) (omega arith))
 
 sub-copy : tie.Need-sub-copy
 sub-copy c = search needs
@@ -61,23 +63,23 @@ part-copy-start : tie.Need-part-copy-start
 part-copy-start c = search needs
 
 part-copy-end : tie.Need-part-copy-end
-part-copy-end c = omega (arith, size-inside (c .before .before .before .before .before .before .before .before .args .post .now) (c .before .before .name-at .result) (omega arith))
+part-copy-end c = omega (arith, size-inside (c .before .before .before .before .before .before .before .before .args .post .now) (c .before .before .place-of .result) (omega arith))
 
 copy-requires : tie.Need-copy-requires
 copy-requires c κs =
     let a = c .before .before .before .before .before .before .before .before .before .before .args in
-    let l = length-stored (a .post .now) (a .g) (c .before .before .before .before .name-at .result) (omega arith) (rw (c .before .before .before .before .before .before .index-at .ensures .0) at (c .before .before .before .before .name-at .ensures)) in
+    let l = length-stored (a .post .now) (a .g) (c .before .before .before .before .place-of .result) (omega arith) (rw (c .before .before .before .before .before .before .index-at .ensures .0) at (c .before .before .before .before .place-of .ensures)) in
     simp (length-take, length-drop) (omega arith)
 
 add-result-2 : tie.Need-add-result-2
 add-result-2 c =
     let a = c .before .before .before .before .before .before .before .before .before .before .before .before .before .args in
-    omega (arith, length-stored (a .post .now) (a .g) (c .before .before .before .before .before .before .before .name-at .result) (omega arith) (rw (c .before .before .before .before .before .before .before .before .before .index-at .ensures .0) at (c .before .before .before .before .before .before .before .name-at .ensures)))
+    omega (arith, length-stored (a .post .now) (a .g) (c .before .before .before .before .before .before .before .place-of .result) (omega arith) (rw (c .before .before .before .before .before .before .before .before .before .index-at .ensures .0) at (c .before .before .before .before .before .before .before .place-of .ensures)))
 
 add-result-3 : tie.Need-add-result-3
 add-result-3 c =
     let a = c .before .before .before .before .before .before .before .before .before .before .before .before .before .args in
-    omega (arith, length-stored (a .post .now) (a .g) (c .before .before .before .before .before .before .before .name-at .result) (omega arith) (rw (c .before .before .before .before .before .before .before .before .before .index-at .ensures .0) at (c .before .before .before .before .before .before .before .name-at .ensures)))
+    omega (arith, length-stored (a .post .now) (a .g) (c .before .before .before .before .before .before .before .place-of .result) (omega arith) (rw (c .before .before .before .before .before .before .before .before .before .index-at .ensures .0) at (c .before .before .before .before .before .before .before .place-of .ensures)))
 
 same-length-2 : tie.Need-same-length-2
 same-length-2 c = search needs
@@ -85,8 +87,8 @@ same-length-2 c = search needs
 returns-3 : tie.Need-returns-3
 returns-3 c =
     let a = c .before .before .before .before .before .before .before .before .before .before .before .before .before .args in
-    let p = c .before .before .before .before .before .before .before .name-at .result in
-    let s : Stands (a .post .now) p (indexOf (a .post .now) (a .g) - 258) = rw (c .before .before .before .before .before .before .before .before .before .index-at .ensures .0) at (c .before .before .before .before .before .before .before .name-at .ensures) in
+    let p = c .before .before .before .before .before .before .before .place-of .result in
+    let s : Stands (a .post .now) p (indexOf (a .post .now) (a .g) - 258) = rw (c .before .before .before .before .before .before .before .before .before .index-at .ensures .0) at (c .before .before .before .before .before .before .before .place-of .ensures) in
     let l = length-stored (a .post .now) (a .g) p (omega arith) s in
     let e = name-copied (a .post .now) (a .g) p (omega arith) s (omega arith) in
     (c .before .before .copy .ensures ∙ rw (e, ← c .before .before .before .before .before .before .size-at .ensures), omega arith)
@@ -97,8 +99,8 @@ put-name-spec =
     (tie.spec
     index-at-requires
     returns
-    sub-name-at
-    name-at-requires
+    sub-place-of
+    place-of-requires
     size-at-requires
     slice-write-out
     add-result

@@ -53,7 +53,7 @@ returns c =
     let b = a .post .now in
     let ids = a .ids .now in
     let h = c .before .before .before .before .before .before .before .before .before .before .before .before .pre .0 .array in
-    two-parts (a .out .now) (c .before .before .before .before .before .before .write-head .last .1 .1 .0) (c .before .before .write-names .last .1 .1 .1 .0) (headBytes b ids) (flatMap (nameBytes b) ids) _ _
+    two-parts (a .out .now) (c .before .before .before .before .before .before .write-head .last .1 .1 .0) (c .before .before .write-names .last .1 .1 .1 .1 .0) (headBytes b ids) (flatMap (nameBytes b) ids) _ _
     (c .before .before .before .before .before .before .write-head .ensures) (length-headBytes b ids (omega arith)) refl (c .before .before .write-names .ensures) (omega (arith, length-postBytes b ids (omega arith)))
 
 pub write-cut-spec : {M : Type 1} → statement M

@@ -14,10 +14,10 @@ use Rattle.post.proofs.write_names.Statement.{statement}
 use Rattle.post.proofs.write_names.Tie as tie
 
 abbrev Inv-loop : tie.InvT-loop
-Inv-loop post ids room out₀ at₀ j₀ out at j = (j ≤ length ids) × (length out ≡ length out₀) × (at ≡ length (flatMap (nameBytes post) (take j ids))) × (out ≡ over (flatMap (nameBytes post) (take j ids)) out₀)
+Inv-loop post ids room found out₀ at₀ j₀ out at j = (j ≤ length ids) × (length out ≡ length out₀) × (at ≡ length (flatMap (nameBytes post) (take j ids))) × (out ≡ over (flatMap (nameBytes post) (take j ids)) out₀)
 
 abbrev μ-loop : tie.MeasureT-loop
-μ-loop post ids room out₀ at₀ j₀ out at j = length ids - j
+μ-loop post ids room found out₀ at₀ j₀ out at j = length ids - j
 
 loop-holds : tie.Need-loop-holds Inv-loop μ-loop
 unfolding flatMap
@@ -34,7 +34,7 @@ put-name-requires c κs =
     let a = c .before .before .before .before .before .before .before .before .args in
     let l = c .before .before .before .loop in
     let t = names-turn (a .post .now) (a .ids .now) (l .j) (c .before .before .loop-test .taken) in
-    (search needs, (omega (arith, c .before .before .before .before .before .before .before .before .pre .0 .under (l .j) (c .before .before .loop-test .taken)), omega (arith, names-within (a .post .now) (a .ids .now) (l .j + 1))))
+    (c .before .before .before .before .before .before .before .before .pre .1 .0 .places (l .j) (c .before .before .loop-test .taken), (omega (arith, c .before .before .before .before .before .before .before .before .pre .0 .under (l .j) (c .before .before .loop-test .taken)), omega (arith, names-within (a .post .now) (a .ids .now) (l .j + 1))))
 
 add-j : tie.Need-add-j Inv-loop μ-loop
 add-j c = search needs

@@ -1,0 +1,61 @@
+-- The definition of the index, case by case.
+use native.Mathlib.Omega.{arith}
+use lib.ListN.{length}
+use borrow.Author.Tests.{eq-eqb, ne-eqb}
+use Rattle.post.specs.Found.{indexFor}
+use borrow.Author.Needs.{needs}
+use Rattle.post.proofs.look_up.Statement.{statement}
+use Rattle.post.proofs.look_up.Tie as tie
+
+mul-from : tie.Need-mul-from
+mul-from c = search needs
+
+mul-end : tie.Need-mul-end
+mul-end c = search needs
+
+mul-name-at : tie.Need-mul-name-at
+mul-name-at c = search needs
+
+sub-name-at : tie.Need-sub-name-at
+sub-name-at c = search needs
+
+part-name-at-start : tie.Need-part-name-at-start
+part-name-at-start c = search needs
+
+part-name-at-end : tie.Need-part-name-at-end
+part-name-at-end c = search needs
+
+name-at-requires : tie.Need-name-at-requires
+unfolding indexFor
+name-at-requires c κs =
+    let a = c .before .before .before .before .before .args in
+    let p = c .before .before .before .before .before .pre .0 in
+    (rw (eq-eqb (length (a .own .now)) 0 (c .before .if1 .taken)) at (p .0), p .1)
+
+returns : tie.Need-returns
+returns c = search needs
+
+name-at-requires-2 : tie.Need-name-at-requires-2
+unfolding indexFor
+name-at-requires-2 c κs =
+    let a = c .before .before .before .before .args in
+    let p = c .before .before .before .before .pre .0 in
+    (rw (ne-eqb (length (a .own .now)) 0 (c .if1 .left)) at (p .0), p .1)
+
+returns-2 : tie.Need-returns-2
+returns-2 c = search needs
+
+pub look-up-spec : {M : Type 1} → statement M
+look-up-spec =
+    tie.close
+    (tie.spec
+    mul-from
+    mul-end
+    mul-name-at
+    sub-name-at
+    part-name-at-start
+    part-name-at-end
+    name-at-requires
+    returns
+    name-at-requires-2
+    returns-2)
