@@ -129,6 +129,10 @@ fn posts() -> Vec<Made> {
         let build = Build::empty(glyphs).with(b"post", post(&far, &names(n, 1)));
         cases.push(made(format!("post: {n} names for {glyphs} glyphs, all"), build, glyphs, all(glyphs)));
     }
+    // The same, but each name lies between two places that are held.
+    let apart: Vec<_> = (0..1_000).map(|id| 258 + id * 40_503 % n).collect();
+    let build = Build::empty(1_000).with(b"post", post(&apart, &names(n, 1)));
+    cases.push(made(format!("post: {n} names for 1000 glyphs, scattered, all"), build, 1_000, all(1_000)));
     // All glyphs ask for the last name.
     let build = Build::empty(1_000).with(b"post", post(&[65_535; 1_000], &names(n, 1)));
     cases.push(made(format!("post: 1,000 glyphs ask for the last of {n} names"), build, 1_000, all(1_000)));

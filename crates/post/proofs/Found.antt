@@ -1,5 +1,5 @@
 -- Names found one after the other: what is put away stays, and so do the roster and the index in front of it.
-use mathlib.Core.Path.{_≡_, refl, sym, ap, ap₂, subst, _∙_}
+use mathlib.Core.Path.{_≡_, refl, sym, ap, ap₂, _∙_}
 use mathlib.Core.Bool.{Bool, true, false}
 use mathlib.Core.List.{List, flatMap}
 use Prim.Native.Nat.{ℕ, _+_, _*_, _-_, _%_, _/_, _≤_, _<_}
@@ -9,11 +9,11 @@ use lib.ListN.{length, take, drop, getD, set, length-take, length-drop}
 use lib.Seq.{take-take, getD-take, getD-drop, ext-getD, take-set-le, drop-set-lt, length-take-le, take-at, drop-at, drop-drop}
 use borrow.Author.Tests.{ltb-true, ltb-false, leb-true}
 use borrow.Rule.Slice.PartMut.{putMid, take-put, drop-put, same-len-mid}
-use Rattle.model.specs.Res.{pick, both, either}
+use Rattle.model.specs.Res.{pick, either}
 use Rattle.model.specs.Bytes.{Bytes, part}
 use Rattle.model.proofs.Members.{by}
 use Rattle.model.proofs.Res.{true-false}
-use Rattle.post.specs.Post.{Stands, placeIn, withPlace, Index, indexOf, nameBytes, PlaceAt, Located, manyNames, placedFor, roomStart, roomOf}
+use Rattle.post.specs.Post.{Stands, placeIn, withPlace, Index, nameBytes, Located, manyNames, placedFor, roomStart, roomOf}
 use Rattle.post.specs.Found.{placesAt, indexFor, Behind, PutAway, Sized, Placing, Sought}
 use Rattle.post.proofs.Held.{length-withPlace, place-same, place-other}
 

@@ -75,7 +75,7 @@ pub record Located (b : Bytes) (ids : List ℕ) (found : Bool) (room : List ℕ)
 -- Which of the two it is: the found places if few glyphs are kept, or if there may be far more names than glyphs. They end the scratch's places 2n to
 -- 4n; the index is all of these.
 unfoldable pub manyNames : ℕ → ℕ → Bool
-manyNames len n = both (ltb n 2048) (ltb (32 * n) len)
+manyNames len n = both (ltb n 4096) (ltb (32 * n) len)
 
 unfoldable pub placedFor : ℕ → ℕ → ℕ → Bool
 placedFor len n kept = either (leb (4 * kept) n) (manyNames len n)

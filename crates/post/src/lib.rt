@@ -3,7 +3,7 @@
 // its own name stored. `measure` looks for the names and uses the scratch's free half, of 2n numbers, for `write`:
 // - if few of the glyphs are kept, or if there may be far more names than glyphs, the places it found are the last 2 * kept numbers,
 //   two for each roster place, and `write` looks for nothing;
-// - else all of the half is the index that it looked into, and `write` looks into it again: each name has its place there, mostly.
+// - else all of the half is the index that it looked into, and `write` looks into it again.
 mod chains;
 mod names;
 
@@ -13,7 +13,7 @@ ghost use mathlib.Core.List.{[], flatMap};
 ghost use Prim.Native.Nat.{ℕ, _+_, _*_, _≤_, _<_};
 ghost use lib.ListN.{length, getD, take};
 ghost use Rattle.model.specs.Res.{isOk, valueOf};
-ghost use Rattle.model.specs.Bytes.{word16, part, put, over};
+ghost use Rattle.model.specs.Bytes.{word16, put, over};
 ghost use Rattle.model.specs.Post.{cutPost};
 ghost use Rattle.post.specs.Post.{Stands, placeIn, Index, indexOf, PlaceAt, Located, manyNames, placedFor, roomStart, Indexed, nameBytes, indexBytes, headBytes, postBytes, Named, Answered, Tells, Measured};
 ghost use Rattle.post.specs.Found.{placesAt, indexFor, PutAway, Sized, Placing, Sought};
@@ -128,19 +128,19 @@ fn index_at(post: &[u8], g: u16) -> usize
     names::wide(read::u16_at(post, 34 + 2 * names::wide(g)))
 }
 
-// Whether there may be far more names than glyphs: the bytes tell. The index then gets an array of its own: the free half is so
-// small that a lookup in it would pass many names.
+// Whether there may be far more names than glyphs: the table has over 32 bytes a glyph, where an index and a name take 15 or so. The
+// free half has room for few of them, and a lookup would pass dozens; an array of 8,192 numbers, if that is more, holds the index.
 fn many(len: usize, n: usize) -> bool
     requires { ⌜ n ≤ 65536 ⌝ }
     ensures { λ r. ⌜ r ≡ manyNames len n ⌝ }
 {
-    if 2048 <= n {
+    if 4096 <= n {
         return false;
     }
     32 * n < len
 }
 
-// Whether the places that are found are put away for `write`: with few glyphs there is room for them beside the index.
+// Whether the places that are found are put away for `write`: if few glyphs are kept there is room for them beside the index.
 fn placed(len: usize, n: usize, kept: usize) -> bool
     requires { ⌜ (kept ≤ 65535) × (n ≤ 65536) ⌝ }
     ensures { λ r. ⌜ r ≡ placedFor len n kept ⌝ }
@@ -173,7 +173,7 @@ fn room_start(placed: bool, n: usize, kept: usize) -> usize
     2 * n
 }
 
-// Finds the names, and says how many bytes they will take.
+// Finds the names and says how many bytes they will take.
 fn find_names(post: &[u8], want: usize, scratch: &mut [u16], n: usize, kept: usize) -> usize
     requires { ⌜ Named (now post) (take kept (now scratch)) × (want ≤ 65278) × (length (now post) ≤ 4294967295) ⌝ }
     requires { ⌜ (kept ≤ 65535) × (kept ≤ n) × (0 < n) × (n ≤ 65536) × (4 * n ≤ length (now scratch)) ⌝ }

@@ -1,11 +1,9 @@
 -- All names found with the index in an array of its own.
 use Prim.Native.Nat.{_*_, _-_}
 use mathlib.Core.Path.{_≡_, sym, _∙_}
-use mathlib.Core.Bool.{true, false}
 use native.Mathlib.Omega.{arith}
 use lib.ListN.{length}
 use Rattle.model.proofs.Res.{true-false}
-use Rattle.post.specs.Post.{placedFor}
 use Rattle.post.specs.Found.{placesAt, indexFor}
 use Rattle.post.proofs.Found.{behind-same, placed-many, sought}
 use borrow.Author.Needs.{needs}

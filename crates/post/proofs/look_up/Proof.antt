@@ -1,5 +1,4 @@
 -- The definition of the index, case by case.
-use native.Mathlib.Omega.{arith}
 use lib.ListN.{length}
 use borrow.Author.Tests.{eq-eqb, ne-eqb}
 use Rattle.post.specs.Found.{indexFor}

@@ -1,7 +1,7 @@
 -- The invariant: the names of the roster places so far are found, and the size is that of their bytes; a name is no longer than the table, so that the sum fits.
-use Prim.Native.Nat.{_-_, _≤_, _*_, _+_, _<_}
-use mathlib.Core.Path.{_≡_, _∙_, ap}
-use mathlib.Core.List.{List, flatMap}
+use Prim.Native.Nat.{_-_, _≤_, _*_}
+use mathlib.Core.Path.{_≡_, _∙_}
+use mathlib.Core.List.{flatMap}
 use native.Mathlib.Omega.{arith}
 use lib.ListN.{length, take, getD}
 use lib.Seq.{take-length, length-take-le}
@@ -30,7 +30,6 @@ name-size-requires c κs =
     let a = c .before .before .before .before .before .before .args in
     let l = c .before .before .loop in
     let p = c .before .before .before .before .before .before .pre in
-    let ids = take (a .kept) (a .scratch .now) in
     let g = placing-number (a .post .now) (a .n) (a .at) (l .j) (a .kept) (a .scratch .now) (l .scratch) (omega arith) (omega arith) (l .inv .3) in
     let len = length-take-le (a .kept) (a .scratch .now) (omega arith) in (
       (rw (index-stays (a .n) (a .at) (a .scratch .now) (l .scratch) (l .inv .3 .behind) (a .own .now) (omega arith)) (p .1 .0), omega arith),

@@ -1,5 +1,4 @@
 -- By what the part holds.
-use native.Mathlib.Omega.{arith}
 use borrow.Author.Needs.{needs}
 use Rattle.post.proofs.place_of.Statement.{statement}
 use Rattle.post.proofs.place_of.Tie as tie

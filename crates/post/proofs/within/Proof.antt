@@ -1,7 +1,6 @@
 -- Behind the table there are as few bytes as at its end.
 use native.Mathlib.Omega.{arith}
 use Rattle.post.proofs.Walk.{stands-end}
-use borrow.Author.Needs.{needs}
 use Rattle.post.proofs.within.Statement.{statement}
 use Rattle.post.proofs.within.Tie as tie
 
