@@ -1,4 +1,7 @@
 -- The definition itself.
+use Prim.Native.Nat.{_*_, _-_}
+use mathlib.Core.Path.{_≡_}
+use native.Mathlib.Omega.{arith}
 use Rattle.post.specs.Post.{roomStart}
 use borrow.Author.Needs.{needs}
 use Rattle.post.proofs.room_start.Statement.{statement}
@@ -15,7 +18,10 @@ sub-result c = search needs
 
 returns : tie.Need-returns
 unfolding roomStart
-returns c = rw (c .if1 .taken)
+returns c =
+    let a = c .before .args in
+    let e : roomStart (a .placed) (a .n) (a .kept) ≡ 4 * a .n - 2 * a .kept = rw (c .if1 .taken) in
+    omega arith
 
 mul-result-3 : tie.Need-mul-result-3
 mul-result-3 c = search needs
