@@ -4,12 +4,12 @@ use mathlib.Core.Logic.{_⊎_, inl, inr, ⊎-elim}
 use mathlib.Core.List.{List}
 use Prim.Native.Nat.{ℕ, zero, suc, _+_, _*_, _-_, _%_, _/_, _≤_, _<_}
 use native.Mathlib.Omega.{arith}
-use native.Mathlib.Nat.{zero-add, mul-le-mul-right}
+use native.Mathlib.Nat.{zero-add, mul-le-mul-right, div-mul-le-self}
 use lib.Dec.{ltb, eqb}
 use lib.ListN.{length, getD, set, length-set}
 use lib.Seq.{getD-set-same, getD-set-other}
 use borrow.Author.Tests.{ltb-true, ltb-false, eqb-true, eqb-false}
-use Rattle.model.specs.Bytes.{Bytes}
+use Rattle.model.specs.Bytes.{Bytes, word16}
 use Rattle.model.proofs.Members.{by}
 use Rattle.post.specs.Post.{sizeAt, walked, Stands, placeIn, withPlace, ChainAt, Chained}
 use Rattle.post.specs.Chains.{Chain, Stepped, Went, Spaced, Four, Joined, Head, Headed, Heads, Led, Arrived, Rounded}
@@ -18,7 +18,7 @@ use Rattle.post.specs.declared.chains.Reached.the-variants.{Missed, To}
 use Rattle.post.specs.declared.chains.Lane.{Lane}
 use Rattle.post.specs.declared.chains.Starts.{Starts}
 use Rattle.post.specs.declared.chains.Lanes.{Lanes}
-use Rattle.post.proofs.Walk.{walked-turn, walked-stop, size-whole, stands-walked}
+use Rattle.post.proofs.Walk.{walked-turn, walked-stop, size-whole, stands-first, stands-walked}
 use Rattle.post.proofs.Held.{length-withPlace, place-same}
 
 -- so many names, and so many more
@@ -260,59 +260,62 @@ heads-set i first s n₁ n₂ n₃ n₄ room room₁ room₂ room₃ room₄ h�
     }
 
 -- a chain with its head is a chain of the index
-chain-at : (b : Bytes) (after : List ℕ) (q i base first at : ℕ) (l : Lane) → Head after i base first (l .n - 1) → Chain b after base at l → 0 < l .n → l .n ≤ q
-    → getD after 1 0 ≡ q → at ≡ 36 + i * q → Stands b base first → ChainAt b after i
-chain-at b after q i base first at l h c some few share e st =
+chain-at : (b : Bytes) (after : List ℕ) (q c i base first at : ℕ) (l : Lane) → Head after i base first (l .n - 1) → Chain b after base at l → 0 < l .n → l .n ≤ q
+    → getD after 1 0 ≡ q → getD after 2 0 ≡ c → at ≡ 4 + 4 * c + i * q → Stands b base first → ChainAt b after i
+chain-at b after q c i base first at l h k some few share number e st =
     record {
       few = rw (h .last-at, share) (omega arith);
-      places = λ j k.
+      places = λ j le.
           let lt : j < l .n = omega (arith, h .last-at) in
-          rw (h .base-at, h .first-at, share, ← e, c .held j lt) (stands-walked b base first j st);
+          rw (h .base-at, h .first-at, share, number, ← e, k .held j lt) (stands-walked b base first j st);
     }
 
 -- the four chains are one list of names
-module _ (b : Bytes) (q i turns : ℕ) (room room₁ after : List ℕ) (from : Lane) (s : Starts) (f : Lanes) (d : Lane) (led : Led b room q i from) (sp : Spaced b s)
-    (four : Four b room (36 + i * q) q s turns (f .a) (f .b) (f .c) (f .d)) (fits : turns ≤ q) (jo : Joined s f) (here : s .a ≡ from .p)
-    (w : Went b (s .d) (36 + (i + 3) * q) q (f .d) room d room₁) (hs : Heads i (from .n) s (f .a .n) (f .b .n) (f .c .n) (d .n) room₁ after) where
-  kept-after : (base at : ℕ) (l : Lane) → 36 ≤ at → at + l .n ≤ 36 + (i + 3) * q → Chain b room base at l → Chain b after base at l
-  kept-after base at l lo hi c =
-      chain-kept b room after base at l c (λ x p r. hs .back x (omega (arith, led .four-more)) ∙ w .front x (omega arith))
+module _ (b : Bytes) (q c i turns : ℕ) (room room₁ after : List ℕ) (from : Lane) (s : Starts) (f : Lanes) (d : Lane) (led : Led b room q c i from) (sp : Spaced b s)
+    (four : Four b room (4 + 4 * c + i * q) q s turns (f .a) (f .b) (f .c) (f .d)) (fits : turns ≤ q) (jo : Joined s f) (here : s .a ≡ from .p)
+    (w : Went b (s .d) (4 + 4 * c + (i + 3) * q) q (f .d) room d room₁) (hs : Heads i (from .n) s (f .a .n) (f .b .n) (f .c .n) (d .n) room₁ after) where
+  kept-after : (base at : ℕ) (l : Lane) → 4 + 4 * c ≤ at → at + l .n ≤ 4 + 4 * c + (i + 3) * q → Chain b room base at l → Chain b after base at l
+  kept-after base at l lo hi k =
+      chain-kept b room after base at l k (λ x p r. hs .back x (omega (arith, led .four-more)) ∙ w .front x (omega arith))
 
   joined-at : (base first : ℕ) (at : ℕ) (l : Lane) → Chain b room base at l → l .p ≤ length b → Stands b base first → Stands b (l .p) (first + l .n)
-  joined-at base first at l c h st = rw (c .here h) at (stands-walked b base first (l .n) st)
+  joined-at base first at l k h st = rw (k .here h) at (stands-walked b base first (l .n) st)
 
   stands₁ : Stands b (s .a) (from .n)
   stands₁ = rw here (led .stands (omega (arith, sp .in-a)))
 
   stands₂ : Stands b (s .b) (from .n + f .a .n)
-  stands₂ = rw (jo .at-b) at (joined-at (s .a) (from .n) (36 + i * q) (f .a) (four .chain₁) (omega (arith, sp .in-b, jo .at-b)) stands₁)
+  stands₂ = rw (jo .at-b) at (joined-at (s .a) (from .n) (4 + 4 * c + i * q) (f .a) (four .chain₁) (omega (arith, sp .in-b, jo .at-b)) stands₁)
 
   stands₃ : Stands b (s .c) (from .n + f .a .n + f .b .n)
-  stands₃ = rw (jo .at-c) at (joined-at (s .b) (from .n + f .a .n) (36 + i * q + q) (f .b) (four .chain₂) (omega (arith, sp .in-c, jo .at-c)) stands₂)
+  stands₃ = rw (jo .at-c) at (joined-at (s .b) (from .n + f .a .n) (4 + 4 * c + i * q + q) (f .b) (four .chain₂) (omega (arith, sp .in-c, jo .at-c)) stands₂)
 
   stands₄ : Stands b (s .d) (from .n + f .a .n + f .b .n + f .c .n)
-  stands₄ = rw (jo .at-d) at (joined-at (s .c) (from .n + f .a .n + f .b .n) (36 + i * q + 2 * q) (f .c) (four .chain₃) (omega (arith, sp .in-d, jo .at-d)) stands₃)
+  stands₄ = rw (jo .at-d) at (joined-at (s .c) (from .n + f .a .n + f .b .n) (4 + 4 * c + i * q + 2 * q) (f .c) (four .chain₃) (omega (arith, sp .in-d, jo .at-d)) stands₃)
 
   share-after : getD after 1 0 ≡ q
   share-after = hs .front 1 (omega arith) ∙ w .front 1 (omega arith) ∙ led .share
 
+  number-after : getD after 2 0 ≡ c
+  number-after = hs .front 2 (omega arith) ∙ w .front 2 (omega arith) ∙ led .number
+
   chain₁-at : ChainAt b after i
-  chain₁-at = chain-at b after q i (s .a) (from .n) (36 + i * q) (f .a) (hs .head₁)
-      (kept-after (s .a) (36 + i * q) (f .a) (omega arith) (omega (arith, four .few₁)) (four .chain₁)) (jo .some₁) (omega (arith, four .few₁)) share-after refl stands₁
+  chain₁-at = chain-at b after q c i (s .a) (from .n) (4 + 4 * c + i * q) (f .a) (hs .head₁)
+      (kept-after (s .a) (4 + 4 * c + i * q) (f .a) (omega arith) (omega (arith, four .few₁)) (four .chain₁)) (jo .some₁) (omega (arith, four .few₁)) share-after number-after refl stands₁
 
   chain₂-at : ChainAt b after (i + 1)
-  chain₂-at = chain-at b after q (i + 1) (s .b) (from .n + f .a .n) (36 + i * q + q) (f .b) (hs .head₂)
-      (kept-after (s .b) (36 + i * q + q) (f .b) (omega arith) (omega (arith, four .few₂)) (four .chain₂)) (jo .some₂) (omega (arith, four .few₂)) share-after (omega arith) stands₂
+  chain₂-at = chain-at b after q c (i + 1) (s .b) (from .n + f .a .n) (4 + 4 * c + i * q + q) (f .b) (hs .head₂)
+      (kept-after (s .b) (4 + 4 * c + i * q + q) (f .b) (omega arith) (omega (arith, four .few₂)) (four .chain₂)) (jo .some₂) (omega (arith, four .few₂)) share-after number-after (omega arith) stands₂
 
   chain₃-at : ChainAt b after (i + 2)
-  chain₃-at = chain-at b after q (i + 2) (s .c) (from .n + f .a .n + f .b .n) (36 + i * q + 2 * q) (f .c) (hs .head₃)
-      (kept-after (s .c) (36 + i * q + 2 * q) (f .c) (omega arith) (omega (arith, four .few₃)) (four .chain₃)) (jo .some₃) (omega (arith, four .few₃)) share-after (omega arith) stands₃
+  chain₃-at = chain-at b after q c (i + 2) (s .c) (from .n + f .a .n + f .b .n) (4 + 4 * c + i * q + 2 * q) (f .c) (hs .head₃)
+      (kept-after (s .c) (4 + 4 * c + i * q + 2 * q) (f .c) (omega arith) (omega (arith, four .few₃)) (four .chain₃)) (jo .some₃) (omega (arith, four .few₃)) share-after number-after (omega arith) stands₃
 
   chain₄-at : ChainAt b after (i + 3)
-  chain₄-at = chain-at b after q (i + 3) (s .d) (from .n + f .a .n + f .b .n + f .c .n) (36 + (i + 3) * q) d (hs .head₄)
-      (chain-kept b room₁ after (s .d) (36 + (i + 3) * q) d (w .chain) (λ x p r. hs .back x (omega (arith, led .four-more)))) (omega (arith, jo .some₄, w .grown)) (w .few) share-after refl stands₄
+  chain₄-at = chain-at b after q c (i + 3) (s .d) (from .n + f .a .n + f .b .n + f .c .n) (4 + 4 * c + (i + 3) * q) d (hs .head₄)
+      (chain-kept b room₁ after (s .d) (4 + 4 * c + (i + 3) * q) d (w .chain) (λ x p r. hs .back x (omega (arith, led .four-more)))) (omega (arith, jo .some₄, w .grown)) (w .few) share-after number-after refl stands₄
 
-  pub arrive : from .n + f .a .n + f .b .n + f .c .n + d .n ≤ 65535 → Arrived b q i (from .n) room (d .p) (from .n + f .a .n + f .b .n + f .c .n + d .n) after
+  pub arrive : from .n + f .a .n + f .b .n + f .c .n + d .n ≤ 65535 → Arrived b q c i (from .n) room (d .p) (from .n + f .a .n + f .b .n + f .c .n + d .n) after
   arrive small =
       record {
         first-at = hs .head₁ .first-at;
@@ -331,9 +334,9 @@ module _ (b : Bytes) (q i turns : ℕ) (room room₁ after : List ℕ) (from : L
       }
 
 -- what was written behind `at` before is no matter in front of it
-pub arrived-behind : (b : Bytes) (q i first p n : ℕ) (room room₁ after : List ℕ) → i ≤ 4 → Arrived b q i first room₁ p n after
-    → ((x : ℕ) → x < 36 + i * q → getD room₁ x 0 ≡ getD room x 0) → length room₁ ≡ length room → Arrived b q i first room p n after
-arrived-behind b q i first p n room room₁ after four a k l =
+pub arrived-behind : (b : Bytes) (q c i first p n : ℕ) (room room₁ after : List ℕ) → i + 4 ≤ c → Arrived b q c i first room₁ p n after
+    → ((x : ℕ) → x < 4 + 4 * c + i * q → getD room₁ x 0 ≡ getD room x 0) → length room₁ ≡ length room → Arrived b q c i first room p n after
+arrived-behind b q c i first p n room room₁ after four a k l =
     record {
       first-at = a .first-at;
       stands = a .stands;
@@ -344,83 +347,178 @@ arrived-behind b q i first p n room room₁ after four a k l =
       same-length = a .same-length ∙ l;
     }
 
--- the first four chains stay when the second four are made
-chain-stays : (b : Bytes) (q j : ℕ) (room after : List ℕ) → j < 4 → getD room 1 0 ≡ q → ((x : ℕ) → x < 20 → getD after x 0 ≡ getD room x 0)
-    → ((x : ℕ) → 36 ≤ x → x < 36 + 4 * q → getD after x 0 ≡ getD room x 0) → ChainAt b room j → ChainAt b after j
-chain-stays b q j room after lt share heads places c =
-    let m = mul-le-mul-right {m = j + 1} {n = 4} q (omega arith) in
+-- the chains in front stay when four more are made
+chain-stays : (b : Bytes) (q c i j : ℕ) (room after : List ℕ) → j < i → getD room 1 0 ≡ q → getD room 2 0 ≡ c
+    → ((x : ℕ) → x < 4 + 4 * i → getD after x 0 ≡ getD room x 0)
+    → ((x : ℕ) → 4 + 4 * c ≤ x → x < 4 + 4 * c + i * q → getD after x 0 ≡ getD room x 0) → ChainAt b room j → ChainAt b after j
+chain-stays b q c i j room after lt share number heads places h =
+    let m = mul-le-mul-right {m = j + 1} {n = i} q (omega arith) in
     record {
-      few = rw (heads 1 (omega arith), heads (7 + 4 * j) (omega arith)) (c .few);
-      places = λ k h.
-          let le : k ≤ getD room (7 + 4 * j) 0 = rw (heads (7 + 4 * j) (omega arith)) at h in
-          let few = c .few in
+      few = rw (heads 1 (omega arith), heads (7 + 4 * j) (omega arith)) (h .few);
+      places = λ k le.
+          let last : k ≤ getD room (7 + 4 * j) 0 = rw (heads (7 + 4 * j) (omega arith)) at le in
+          let few = h .few in
           rw (
             heads 1 (omega arith),
+            heads 2 (omega arith),
             place-alike room after j (λ x lo hi. heads x (omega arith)),
             heads (6 + 4 * j) (omega arith),
-            places (36 + j * getD room 1 0 + k) (omega arith) (rw share (omega (arith, share, few))),
+            places (4 + 4 * getD room 2 0 + j * getD room 1 0 + k) (omega arith) (rw (share, number) (omega (arith, share, few))),
           )
-          (c .places k le);
+          (h .places k last);
     }
 
-pub both-chained : (b : Bytes) (q p₁ n₁ p₂ n₂ : ℕ) (room₀ room after : List ℕ) → getD room₀ 0 0 ≡ 0 → getD room₀ 1 0 ≡ q → 36 + 8 * q ≤ length room₀
-    → Arrived b q 0 0 room₀ p₁ n₁ room → Arrived b q 4 n₁ room p₂ n₂ after → (getD after 0 0 ≡ 0) × Chained b after
-both-chained b q p₁ n₁ p₂ n₂ room₀ room after mark share long a₁ a₂ =
-    let e : getD after 1 0 ≡ q = a₂ .heads-front 1 (omega arith) ∙ a₁ .heads-front 1 (omega arith) ∙ share in (
-      a₂ .heads-front 0 (omega arith) ∙ a₁ .heads-front 0 (omega arith) ∙ mark,
-      record {
-        inside = rw e (omega (arith, a₁ .same-length, a₂ .same-length));
-        from-first = a₂ .heads-front 6 (omega arith) ∙ a₁ .first-at;
-        chains = λ i h. by (ltb i 4)
-            (λ t. let lt = ltb-true i 4 t in
-            chain-stays b q i room after lt (a₁ .heads-front 1 (omega arith) ∙ share) (a₂ .heads-front) (a₂ .places-front) (a₁ .chains i (omega arith) (omega arith)))
-            (λ t. a₂ .chains i (ltb-false i 4 t) (omega arith));
-      },
+-- i chains of c are made
+pub record Made (b : Bytes) (q c i : ℕ) (room : List ℕ) : Type 0 where
+  pub mark : getD room 0 0 ≡ 0
+  pub share : getD room 1 0 ≡ q
+  pub number : getD room 2 0 ≡ c
+  pub from-first : 0 < i → getD room 6 0 ≡ 0
+  pub chains : (j : ℕ) → j < i → ChainAt b room j
+
+pub made-more : (b : Bytes) (q c i first p n : ℕ) (room after : List ℕ) → (i ≡ 0 → first ≡ 0) → Made b q c i room → Arrived b q c i first room p n after
+    → Made b q c (i + 4) after
+made-more b q c i first p n room after start m a =
+    record {
+      mark = a .heads-front 0 (omega arith) ∙ m .mark;
+      share = a .heads-front 1 (omega arith) ∙ m .share;
+      number = a .heads-front 2 (omega arith) ∙ m .number;
+      from-first = λ some. by (eqb i 0)
+          (λ t. let e = eqb-true i 0 t in (rw e at (a .first-at)) ∙ start e)
+          (λ t. let h : 0 < i = omega (arith, eqb-false i 0 t) in a .heads-front 6 (omega arith) ∙ m .from-first h);
+      chains = λ j h. by (ltb j i)
+          (λ t. let lt = ltb-true j i t in chain-stays b q c i j room after lt (m .share) (m .number) (a .heads-front) (a .places-front) (m .chains j lt))
+          (λ t. a .chains j (ltb-false j i t) h);
+    }
+
+pub made-all : (b : Bytes) (q c : ℕ) (room : List ℕ) → 0 < c → 4 + 4 * c + c * q ≤ length room → Made b q c c room → (getD room 0 0 ≡ 0) × Chained b room
+made-all b q c room some long m = (
+  m .mark,
+  record {
+    some = omega (arith, m .number);
+    inside = rw (m .number, m .share) long;
+    from-first = m .from-first some;
+    chains = λ i h. m .chains i (omega (arith, m .number));
+  },
+)
+
+-- the numbers in front of the heads, and each chain's share of what is left behind them
+pub marked : (room : List ℕ) (q c : ℕ) → 3 ≤ length room
+    → (getD (set (set (set room 0 0) 1 q) 2 c) 0 0 ≡ 0) × (getD (set (set (set room 0 0) 1 q) 2 c) 1 0 ≡ q) × (getD (set (set (set room 0 0) 1 q) 2 c) 2 0 ≡ c)
+marked room q c h =
+    let r₁ : List ℕ = set room 0 0 in
+    let r₂ : List ℕ = set r₁ 1 q in
+    let n₁ : length r₁ ≡ length room = length-set room 0 0 in
+    let n₂ : length r₂ ≡ length r₁ = length-set r₁ 1 q in (
+      getD-set-other r₂ 2 0 c 0 (λ e. omega arith) ∙ getD-set-other r₁ 1 0 q 0 (λ e. omega arith) ∙ getD-set-same room 0 0 0 (omega arith),
+      getD-set-other r₂ 2 1 c 0 (λ e. omega arith) ∙ getD-set-same r₁ 1 q 0 (omega arith),
+      getD-set-same r₂ 2 c 0 (omega arith),
     )
 
-pub led-on : (b : Bytes) (q p n : ℕ) (room₀ room : List ℕ) (l : Lane) → getD room₀ 1 0 ≡ q → 36 + 8 * q ≤ length room₀ → q ≤ 16384 → Arrived b q 0 0 room₀ p n room
-    → l .p ≡ p → l .n ≡ n → Led b room q 4 l
-led-on b q p n room₀ room l share long short a ep en =
+pub share-fits : (len c : ℕ) → 4 ≤ c → 4 + 4 * c ≤ len → len ≤ 131072
+    → (4 + 4 * c + c * ((len - 4 - 4 * c) / c) ≤ len) × ((len - 4 - 4 * c) / c ≤ 32768)
+share-fits len c four h short =
+    let d = div-mul-le-self (len - 4 - 4 * c) c in
+    let m = mul-le-mul-right {m = 4} {n = c} ((len - 4 - 4 * c) / c) four in
+    (omega arith, omega arith)
+
+-- a round's part of the way ends within the whole
+pub part-inside : (len rounds j : ℕ) → j < rounds → (j + 1) * (len / rounds) ≤ len
+part-inside len rounds j h = omega (arith, mul-le-mul-right {m = j + 1} {n = rounds} (len / rounds) (omega arith), div-mul-le-self len rounds)
+
+-- the loop over rounds: those made so far, and what the next one starts from
+pub record Rounds (b : Bytes) (q c i : ℕ) (room₀ room : List ℕ) (from : Lane) : Type 0 where
+  pub made : Made b q c i room
+  pub led : Led b room q c i from
+  pub first : i ≡ 0 → from .n ≡ 0
+  pub same-length : length room ≡ length room₀
+
+pub rounds-start : (b : Bytes) (q c : ℕ) (room : List ℕ) (l : Lane) → l .p ≡ 34 + 2 * word16 b 32 → l .n ≡ 0 → 4 ≤ c → 4 + 4 * c + c * q ≤ length room
+    → length room ≤ 131072 → q ≤ 32768 → getD room 0 0 ≡ 0 → getD room 1 0 ≡ q → getD room 2 0 ≡ c → Rounds b q c 0 room room l
+rounds-start b q c room l ep en four long short few mark share number =
     record {
-      stands = λ h. rw (ep, en) (a .stands (omega arith));
-      small = omega (arith, a .small);
-      four-more = omega arith;
-      room-for = omega (arith, a .same-length);
-      short = short;
-      share = a .heads-front 1 (omega arith) ∙ share;
+      made = record { mark = mark; share = share; number = number; from-first = λ h. absurd (omega arith); chains = λ j h. absurd (omega arith) };
+      led = record {
+        stands = λ h. rw (ep, en) (stands-first b);
+        small = omega arith;
+        four-more = four;
+        room-for = long;
+        short = short;
+        few = few;
+        share = share;
+        number = number;
+      };
+      first = λ e. en;
+      same-length = refl;
     }
 
+pub rounds-turn : (b : Bytes) (q c i i' p n : ℕ) (room₀ room after : List ℕ) (from l : Lane) → Rounds b q c i room₀ room from → i' ≡ i + 4 → i + 8 ≤ c
+    → Arrived b q c i (from .n) room p n after → l .p ≡ p → l .n ≡ n → Rounds b q c i' room₀ after l
+rounds-turn b q c i i' p n room₀ room after from l r e four a ep en =
+    let m : Made b q c i' after = rw e (made-more b q c i (from .n) p n room after (r .first) (r .made) a) in
+    record {
+      made = m;
+      led = record {
+        stands = λ h. rw (ep, en) (a .stands (omega arith));
+        small = omega (arith, a .small);
+        four-more = omega arith;
+        room-for = omega (arith, a .same-length, r .led .room-for);
+        short = omega (arith, a .same-length, r .led .short);
+        few = r .led .few;
+        share = m .share;
+        number = m .number;
+      };
+      first = λ z. absurd (omega arith);
+      same-length = a .same-length ∙ r .same-length;
+    }
+
+-- halved three times, so many chains are less than all
+halved : (m : ℕ) → 0 < m → m / 2 < m
+halved m h = omega arith
+
+pub eighth-inside : (i m a b len : ℕ) → 0 < m → 4 + 4 * (i + m) ≤ len → a ≤ i + m / 2 → b ≤ a + (m - m / 2) / 2
+    → 8 + 4 * (b + (m - m / 2 - (m - m / 2) / 2) / 2) ≤ len
+eighth-inside i m a b len some h =
+    let l₁ = halved m some in
+    let l₂ = halved (m - m / 2) (omega arith) in
+    within (m / 2) ((m - m / 2) / 2) ((m - m / 2 - (m - m / 2) / 2) / 2) l₁ l₂ (halved (m - m / 2 - (m - m / 2) / 2) (omega arith))
+  where
+    within : (x y z : ℕ) → x < m → y < m - x → z < m - x - y → a ≤ i + x → b ≤ a + y → 8 + 4 * (b + z) ≤ len
+    within x y z p q r s t = omega arith
+
 -- a name's place in its chain
-pub slot-inside : (b : Bytes) (room : List ℕ) (i j : ℕ) → Chained b room → i < 8 → j ≤ getD room (7 + 4 * i) 0 → 36 + i * getD room 1 0 + j < length room
+pub slot-inside : (b : Bytes) (room : List ℕ) (i j : ℕ) → Chained b room → i < getD room 2 0 → j ≤ getD room (7 + 4 * i) 0 → 4 + 4 * getD room 2 0 + i * getD room 1 0 + j < length room
 slot-inside b room i j c h k =
-    let m = mul-le-mul-right {m = i + 1} {n = 8} (getD room 1 0) (omega arith) in
+    let m = mul-le-mul-right {m = i + 1} {n = getD room 2 0} (getD room 1 0) (omega arith) in
     omega (arith, c .chains i h .few, c .inside)
 
-pub chain-name : (b : Bytes) (room : List ℕ) (i k j : ℕ) → Chained b room → i < 8 → k ≡ getD room (6 + 4 * i) 0 + j → j ≤ getD room (7 + 4 * i) 0
-    → Stands b (placeIn room (2 + 2 * i) + getD room (36 + i * getD room 1 0 + j) 0) k
+pub chain-name : (b : Bytes) (room : List ℕ) (i k j : ℕ) → Chained b room → i < getD room 2 0 → k ≡ getD room (6 + 4 * i) 0 + j → j ≤ getD room (7 + 4 * i) 0
+    → Stands b (placeIn room (2 + 2 * i) + getD room (4 + 4 * getD room 2 0 + i * getD room 1 0 + j) 0) k
 chain-name b room i k j c h e l = rw e (c .chains i h .places j l)
 
-pub chain-walk : (b : Bytes) (room : List ℕ) (i k j : ℕ) → Chained b room → i < 8 → k ≡ getD room (6 + 4 * i) 0 + j → getD room (7 + 4 * i) 0 < j
-    → Stands b (walked b (placeIn room (2 + 2 * i) + getD room (36 + i * getD room 1 0 + getD room (7 + 4 * i) 0) 0) (j - getD room (7 + 4 * i) 0)) k
+pub chain-walk : (b : Bytes) (room : List ℕ) (i k j : ℕ) → Chained b room → i < getD room 2 0 → k ≡ getD room (6 + 4 * i) 0 + j → getD room (7 + 4 * i) 0 < j
+    → Stands b (walked b (placeIn room (2 + 2 * i) + getD room (4 + 4 * getD room 2 0 + i * getD room 1 0 + getD room (7 + 4 * i) 0) 0) (j - getD room (7 + 4 * i) 0)) k
 chain-walk b room i k j c h e l =
     let last : ℕ = getD room (7 + 4 * i) 0 in
     let n : getD room (6 + 4 * i) 0 + last + (j - last) ≡ k = omega arith in
     rw (← n) (stands-walked b _ (getD room (6 + 4 * i) 0 + last) (j - last) (c .chains i h .places last (omega arith)))
 
 -- what the walks leave of what a round starts from, and of what it says
-pub led-room : (b : Bytes) (q i : ℕ) (room after : List ℕ) (from : Lane) → Led b room q i from → ((x : ℕ) → x < 36 + i * q → getD after x 0 ≡ getD room x 0)
-    → length after ≡ length room → Led b after q i from
-led-room b q i room after from l k e =
+pub led-room : (b : Bytes) (q c i : ℕ) (room after : List ℕ) (from : Lane) → Led b room q c i from → ((x : ℕ) → x < 4 + 4 * c + i * q → getD after x 0 ≡ getD room x 0)
+    → length after ≡ length room → Led b after q c i from
+led-room b q c i room after from l k e =
     record {
       stands = l .stands;
       small = l .small;
       four-more = l .four-more;
       room-for = omega (arith, l .room-for);
-      short = l .short;
+      short = omega (arith, l .short);
+      few = l .few;
       share = k 1 (omega arith) ∙ l .share;
+      number = k 2 (omega arith) ∙ l .number;
     }
 
-pub rounded-behind : (b : Bytes) (q i first : ℕ) (room room₁ after : List ℕ) (r : Reached) → i ≤ 4 → Rounded b q i first room₁ r after
-    → ((x : ℕ) → x < 36 + i * q → getD room₁ x 0 ≡ getD room x 0) → length room₁ ≡ length room → Rounded b q i first room r after
-rounded-behind b q i first room room₁ after Missed four a k l = a ∙ l
-rounded-behind b q i first room room₁ after (To p n) four a k l = arrived-behind b q i first p n room room₁ after four a k l
+pub rounded-behind : (b : Bytes) (q c i first : ℕ) (room room₁ after : List ℕ) (r : Reached) → i + 4 ≤ c → Rounded b q c i first room₁ r after
+    → ((x : ℕ) → x < 4 + 4 * c + i * q → getD room₁ x 0 ≡ getD room x 0) → length room₁ ≡ length room → Rounded b q c i first room r after
+rounded-behind b q c i first room room₁ after Missed four a k l = a ∙ l
+rounded-behind b q c i first room room₁ after (To p n) four a k l = arrived-behind b q c i first p n room room₁ after four a k l

@@ -95,25 +95,27 @@ pub record Heads (i first : ℕ) (s : Starts) (n₁ n₂ n₃ n₄ : ℕ) (room 
   pub front : (x : ℕ) → x < 4 + 4 * i → getD after x 0 ≡ getD room x 0
   pub back : (x : ℕ) → 20 + 4 * i ≤ x → getD after x 0 ≡ getD room x 0
 
--- what four walks start from: a name's place and number (if inside the table), and a room of 8 times q numbers behind 36
-pub record Led (b : Bytes) (room : List ℕ) (q i : ℕ) (from : Lane) : Type 0 where
+-- what four walks start from: a name's place and number (if inside the table), and a room of q numbers for each of c chains, behind their heads
+pub record Led (b : Bytes) (room : List ℕ) (q c i : ℕ) (from : Lane) : Type 0 where
   pub stands : from .p ≤ length b → Stands b (from .p) (from .n)
   pub small : from .n ≤ 65535
-  pub four-more : i ≤ 4
-  pub room-for : 36 + 8 * q ≤ length room
-  pub short : q ≤ 16384
+  pub four-more : i + 4 ≤ c
+  pub room-for : 4 + 4 * c + c * q ≤ length room
+  pub short : length room ≤ 131072
+  pub few : q ≤ 32768
   pub share : getD room 1 0 ≡ q
+  pub number : getD room 2 0 ≡ c
 
 -- four chains more, nothing in front of their heads or of their places changed
-pub record Arrived (b : Bytes) (q i first : ℕ) (room : List ℕ) (p n : ℕ) (after : List ℕ) : Type 0 where
+pub record Arrived (b : Bytes) (q c i first : ℕ) (room : List ℕ) (p n : ℕ) (after : List ℕ) : Type 0 where
   pub first-at : getD after (6 + 4 * i) 0 ≡ first
   pub stands : p ≤ length b → Stands b p n
   pub small : n ≤ 65535
   pub chains : (j : ℕ) → i ≤ j → j < i + 4 → ChainAt b after j
   pub heads-front : (x : ℕ) → x < 4 + 4 * i → getD after x 0 ≡ getD room x 0
-  pub places-front : (x : ℕ) → 36 ≤ x → x < 36 + i * q → getD after x 0 ≡ getD room x 0
+  pub places-front : (x : ℕ) → 4 + 4 * c ≤ x → x < 4 + 4 * c + i * q → getD after x 0 ≡ getD room x 0
   pub same-length : length after ≡ length room
 
-abbrev pub Rounded : Bytes → ℕ → ℕ → ℕ → List ℕ → Reached → List ℕ → Type 0
-Rounded b q i first room Missed after = length after ≡ length room
-Rounded b q i first room (To p n) after = Arrived b q i first room p n after
+abbrev pub Rounded : Bytes → ℕ → ℕ → ℕ → ℕ → List ℕ → Reached → List ℕ → Type 0
+Rounded b q c i first room Missed after = length after ≡ length room
+Rounded b q c i first room (To p n) after = Arrived b q c i first room p n after

@@ -1,7 +1,7 @@
 // The names' places by walks side by side. A walk waits at each name for its length byte, so that four walks in one loop take
 // little longer than one. Three of the four start at guessed places. One that comes exactly to where the next one started shows
 // that guess to be right: the two are then one walk. Each leaves a chain: the distance of every name from the chain's first, one
-// number a name, in an eighth of the room. Two times four walks make the index, so that a chain is short enough for a distance.
+// number a name, in its share of the room. There are as many rounds of four walks as make a chain short enough for a distance.
 use crate::names;
 ghost use mathlib.Core.Path.{_≡_};
 ghost use mathlib.Core.Bool.{true};
@@ -41,9 +41,9 @@ enum Reached {
     To(usize, usize),
 }
 
-// The index of names below `want`, as eight chains, if all guesses were right. Chains are made quickly, and a name is found in
-// them a little more slowly: they are for few lookups, and for enough names to be worth four walks. All this decides how long it
-// takes, never what is right.
+// The index of names below `want`, as chains, if all guesses were right. Chains are made quickly, and a name is found in them a
+// little more slowly: they are for few lookups, and for enough names to be worth four walks. Names aren't equally long, so that a
+// chain has room for a quarter more than its part. All this decides how long it takes, never what is right.
 pub fn fill(post: &[u8], want: usize, lookups: usize, room: &mut [u16]) -> bool
     requires { ⌜ (34 + 2 * word16 (now post) 32 ≤ length (now post)) × (length (now post) ≤ 4294967295) ⌝ }
     requires { ⌜ (want ≤ 65278) × (length (now room) ≤ 131072) ⌝ }
@@ -55,16 +55,19 @@ pub fn fill(post: &[u8], want: usize, lookups: usize, room: &mut [u16]) -> bool
     if want / 3 < lookups {
         return false;
     }
-    if room.len() < 1060 {
-        return false;
-    }
     let count = names::wide(read::u16_at(post, 32));
     let start = 34 + 2 * count;
     let end = estimate(post.len(), start, want, count);
-    let q = (room.len() - 36) / 8;
+    let rounds = 1 + (end - start) / 250000;
+    let chains = 4 * rounds;
+    if room.len() < 4 + 4 * chains + want + want / 4 {
+        return false;
+    }
+    let q = (room.len() - 4 - 4 * chains) / chains;
     room[0] = 0;
     room[1] = q as u16;
-    two_rounds(post, want, room, q, start, end)
+    room[2] = chains as u16;
+    all_rounds(post, want, room, q, rounds, start, end)
 }
 
 // Where so many names end, if all are equally long: at least as many as the indexes that aren't standard names.
@@ -83,30 +86,41 @@ fn estimate(len: usize, start: usize, want: usize, count: usize) -> usize
     start + part
 }
 
-// The list's first half, and from where that ended the second.
-fn two_rounds(
+// The list's parts, one round each, from where the last one ended. The last round stands apart since it goes on to the name that is
+// wanted; and a function that is called from two places stays one by itself: put into this one, its loops took 1.2 times as long.
+fn all_rounds(
     post: &[u8],
     want: usize,
     room: &mut [u16],
     q: usize,
+    rounds: usize,
     start: usize,
     end: usize,
 ) -> bool
     requires { ⌜ (start ≡ 34 + 2 * word16 (now post) 32) × (start ≤ end) × (end ≤ length (now post)) × (length (now post) ≤ 4294967295) ⌝ }
-    requires { ⌜ (want ≤ 65278) × (36 + 8 * q ≤ length (now room)) × (q ≤ 16384) × (getD (now room) 0 0 ≡ 0) × (getD (now room) 1 0 ≡ q) ⌝ }
+    requires { ⌜ (0 < rounds) × (4 + 4 * (4 * rounds) + 4 * rounds * q ≤ length (now room)) × (length (now room) ≤ 131072) × (q ≤ 32768) ⌝ }
+    requires { ⌜ (want ≤ 65278) × (getD (now room) 0 0 ≡ 0) × (getD (now room) 1 0 ≡ q) × (getD (now room) 2 0 ≡ 4 * rounds) ⌝ }
     ensures { λ r. ⌜ (r ≡ true → (getD (now (room .exit)) 0 0 ≡ 0) × Chained (now (post .entry)) (now (room .exit))) ⌝ }
 {
-    let half = start + (end - start) / 2;
-    let r = round(post, room, q, 0, Lane { p: start, n: 0 }, half, 0);
-    match r {
-        Reached::Missed => false,
-        Reached::To(p, n) => {
-            let s = round(post, room, q, 4, Lane { p: p, n: n }, end, want);
-            match s {
-                Reached::Missed => false,
-                Reached::To(_, _) => true,
+    let part = (end - start) / rounds;
+    let chains = 4 * rounds;
+    let mut from = Lane { p: start, n: 0 };
+    let mut j = 0;
+    while j + 1 < rounds {
+        let stop = start + (j + 1) * part;
+        let r = round(post, room, q, chains, 4 * j, from, stop, 0);
+        match r {
+            Reached::Missed => return false,
+            Reached::To(p, n) => {
+                from = Lane { p: p, n: n };
             }
         }
+        j += 1;
+    }
+    let s = round(post, room, q, chains, 4 * j, from, end, want);
+    match s {
+        Reached::Missed => false,
+        Reached::To(_, _) => true,
     }
 }
 
@@ -115,14 +129,15 @@ fn round(
     post: &[u8],
     room: &mut [u16],
     q: usize,
+    chains: usize,
     i: usize,
     from: Lane,
     end: usize,
     want: usize,
 ) -> Reached
-    requires { ⌜ Led (now post) (now room) q i from ⌝ }
+    requires { ⌜ Led (now post) (now room) q chains i from ⌝ }
     requires { ⌜ (end ≤ length (now post)) × (length (now post) ≤ 4294967295) ⌝ }
-    ensures { λ r. ⌜ Rounded (now (post .entry)) q i (from .n) (now (room .entry)) r (now (room .exit)) ⌝ }
+    ensures { λ r. ⌜ Rounded (now (post .entry)) q chains i (from .n) (now (room .entry)) r (now (room .exit)) ⌝ }
 {
     let start = from.p;
     if end <= start {
@@ -131,12 +146,12 @@ fn round(
     if 260000 < end - start {
         return Reached::Missed;
     }
-    let at = 36 + i * q;
+    let at = 4 + 4 * chains + i * q;
     let s = guess_starts(post, start, end);
     let ahead = run_all(post, room, at, q, s);
     let f = run_rest(post, room, at, q, s, ahead);
     if met(s, f) {
-        return finish(post, room, q, i, from, s, f, want);
+        return finish(post, room, q, chains, i, from, s, f, want);
     }
     Reached::Missed
 }
@@ -146,15 +161,16 @@ fn finish(
     post: &[u8],
     room: &mut [u16],
     q: usize,
+    chains: usize,
     i: usize,
     from: Lane,
     s: Starts,
     f: Lanes,
     want: usize,
 ) -> Reached
-    requires { ⌜ Led (now post) (now room) q i from × Spaced (now post) s × (length (now post) ≤ 4294967295) ⌝ }
-    requires { ⌜ Four (now post) (now room) (36 + i * q) q s (f .turns) (f .a) (f .b) (f .c) (f .d) × Joined s f × (f .turns ≤ q) × (s .a ≡ from .p) ⌝ }
-    ensures { λ r. ⌜ Rounded (now (post .entry)) q i (from .n) (now (room .entry)) r (now (room .exit)) ⌝ }
+    requires { ⌜ Led (now post) (now room) q chains i from × Spaced (now post) s × (length (now post) ≤ 4294967295) ⌝ }
+    requires { ⌜ Four (now post) (now room) (4 + 4 * chains + i * q) q s (f .turns) (f .a) (f .b) (f .c) (f .d) × Joined s f × (f .turns ≤ q) × (s .a ≡ from .p) ⌝ }
+    ensures { λ r. ⌜ Rounded (now (post .entry)) q chains i (from .n) (now (room .entry)) r (now (room .exit)) ⌝ }
 {
     let a = f.a;
     let b = f.b;
@@ -164,7 +180,7 @@ fn finish(
     if n < want {
         names = want - n;
     }
-    let at = 36 + (i + 3) * q;
+    let at = 4 + 4 * chains + (i + 3) * q;
     let d = go_on(post, room, s.d, at, q, f.d, names);
     if 65535 < n + d.n {
         return Reached::Missed;
@@ -173,7 +189,7 @@ fn finish(
     Reached::To(d.p, n + d.n)
 }
 
-// Each at the first byte behind its part of the way that no name holds: below '-'.
+// Each at the first byte behind its part of the way that no name holds: below '-', or where none is, as in names of 255 bytes, above 'z'.
 fn guess_starts(post: &[u8], start: usize, end: usize) -> Starts
     requires { ⌜ (start < end) × (end ≤ start + 260000) × (end ≤ length (now post)) × (length (now post) ≤ 4294967295) ⌝ }
     ensures { λ r. ⌜ Spaced (now (post .entry)) r × (r .a ≡ start) ⌝ }
@@ -190,20 +206,27 @@ fn guess_starts(post: &[u8], start: usize, end: usize) -> Starts
 
 fn guess(post: &[u8], from: usize, end: usize) -> usize
     requires { ⌜ (from ≤ end) × (end ≤ length (now post)) × (length (now post) ≤ 4294967295) ⌝ }
-    ensures { λ r. ⌜ (from ≤ r) × (r ≤ from + 64) × (r ≤ end) ⌝ }
+    ensures { λ r. ⌜ (from ≤ r) × (r ≤ from + 256) × (r ≤ end) ⌝ }
 {
-    let mut stop = from + 64;
+    let mut stop = from + 256;
     if end < stop {
         stop = end;
     }
+    let mut far = stop;
     let mut p = from;
     while p < stop {
-        if wide(post[p]) < 45 {
+        let x = wide(post[p]);
+        if x < 45 {
             return p;
+        }
+        if 122 < x {
+            if p < far {
+                far = p;
+            }
         }
         p += 1;
     }
-    p
+    far
 }
 
 // The four walks as long as none rests. A function of its own beside `run_rest`, since its test tells LLVM that no step is at its
@@ -387,7 +410,7 @@ fn set_heads(
     c: usize,
     d: usize,
 )
-    requires { ⌜ (36 ≤ length (now room)) × (i ≤ 4) × (0 < a) × (0 < b) × (0 < c) × (0 < d) × (first + a + b + c + d ≤ 65535) ⌝ }
+    requires { ⌜ (20 + 4 * i ≤ length (now room)) × (0 < a) × (0 < b) × (0 < c) × (0 < d) × (first + a + b + c + d ≤ 65535) ⌝ }
     requires { ⌜ (s .a ≤ 4294967295) × (s .b ≤ 4294967295) × (s .c ≤ 4294967295) × (s .d ≤ 4294967295) ⌝ }
     ensures { λ _. ⌜ Heads i first s a b c d (now (room .entry)) (now (room .exit)) ⌝ }
 {
@@ -399,7 +422,7 @@ fn set_heads(
 
 // A chain's first place, that name's number, and the last name's number in the chain.
 fn set_head(room: &mut [u16], i: usize, base: usize, first: usize, last: usize)
-    requires { ⌜ (8 + 4 * i ≤ length (now room)) × (i < 8) × (base ≤ 4294967295) × (first ≤ 65535) × (last ≤ 65535) ⌝ }
+    requires { ⌜ (8 + 4 * i ≤ length (now room)) × (base ≤ 4294967295) × (first ≤ 65535) × (last ≤ 65535) ⌝ }
     ensures { λ _. ⌜ Headed i base first last (now (room .entry)) (now (room .exit)) ⌝ }
 {
     names::set_place(room, 2 + 2 * i, base);
@@ -424,26 +447,45 @@ pub fn name_at(post: &[u8], room: &[u16], k: usize) -> usize
 
 // Where name j of chain i stands.
 fn in_chain(room: &[u16], i: usize, j: usize) -> usize
-    requires { ⌜ (36 ≤ length (now room)) × (i < 8) × (36 + i * getD (now room) 1 0 + j < length (now room)) ⌝ }
-    ensures { λ r. ⌜ r ≡ placeIn (now (room .entry)) (2 + 2 * i) + getD (now (room .entry)) (36 + i * getD (now (room .entry)) 1 0 + j) 0 ⌝ }
+    requires { ⌜ (i < getD (now room) 2 0) × (4 + 4 * getD (now room) 2 0 + i * getD (now room) 1 0 + j < length (now room)) ⌝ }
+    ensures { λ r. ⌜ r ≡ placeIn (now (room .entry)) (2 + 2 * i) + getD (now (room .entry)) (4 + 4 * getD (now (room .entry)) 2 0 + i * getD (now (room .entry)) 1 0 + j) 0 ⌝ }
 {
-    let at = 36 + i * names::wide(room[1]);
+    let at = 4 + 4 * names::wide(room[2]) + i * names::wide(room[1]);
     names::place(room, 2 + 2 * i) + names::wide(room[at + j])
 }
 
-// The last chain whose first name isn't behind name k, by halving.
+// The last chain whose first name isn't behind name k, by halving. There are more than eight chains in huge lists only: the steps for
+// eight stand apart, since LLVM makes branches of those in a loop, which are guessed wrong half the time.
 fn chain_of(room: &[u16], k: usize) -> usize
-    requires { ⌜ (36 ≤ length (now room)) × (getD (now room) 6 0 ≡ 0) ⌝ }
-    ensures { λ r. ⌜ (r < 8) × (getD (now (room .entry)) (6 + 4 * r) 0 ≤ k) ⌝ }
+    requires { ⌜ (0 < getD (now room) 2 0) × (4 + 4 * getD (now room) 2 0 ≤ length (now room)) × (getD (now room) 6 0 ≡ 0) ⌝ }
+    ensures { λ r. ⌜ (r < getD (now (room .entry)) 2 0) × (getD (now (room .entry)) (6 + 4 * r) 0 ≤ k) ⌝ }
 {
-    let half = later(room, 0, 4, k);
-    let quarter = later(room, half, 2, k);
-    later(room, quarter, 1, k)
+    let mut i = 0;
+    let mut more = names::wide(room[2]);
+    while 8 < more {
+        let half = more / 2;
+        i = later(room, i, half, k);
+        more -= half;
+    }
+    of_eight(room, i, more, k)
+}
+
+// The same among so many chains from i on, eight at most.
+fn of_eight(room: &[u16], i: usize, more: usize, k: usize) -> usize
+    requires { ⌜ (0 < more) × (4 + 4 * (i + more) ≤ length (now room)) × (getD (now room) (6 + 4 * i) 0 ≤ k) ⌝ }
+    ensures { λ r. ⌜ (r < i + more) × (getD (now (room .entry)) (6 + 4 * r) 0 ≤ k) ⌝ }
+{
+    let half = more / 2;
+    let quarter = (more - half) / 2;
+    let last = (more - half - quarter) / 2;
+    let a = later(room, i, half, k);
+    let b = later(room, a, quarter, k);
+    later(room, b, last, k)
 }
 
 // So many chains further on, if name k isn't in front of that one.
 fn later(room: &[u16], i: usize, more: usize, k: usize) -> usize
-    requires { ⌜ (36 ≤ length (now room)) × (i + more < 8) × (getD (now room) (6 + 4 * i) 0 ≤ k) ⌝ }
+    requires { ⌜ (8 + 4 * (i + more) ≤ length (now room)) × (getD (now room) (6 + 4 * i) 0 ≤ k) ⌝ }
     ensures { λ r. ⌜ (r ≤ i + more) × (getD (now (room .entry)) (6 + 4 * r) 0 ≤ k) ⌝ }
 {
     let j = i + more;

@@ -1,5 +1,4 @@
 -- The definition itself.
-use native.Mathlib.Nat.{mul-le-mul-right}
 use mathlib.Core.Path.{_≡_, ap, ap₂, _∙_}
 use Prim.Native.Nat.{ℕ, _+_, _*_}
 use lib.ListN.{getD}
@@ -15,14 +14,28 @@ wide-requires : tie.Need-wide-requires
 wide-requires c κs = search needs
 
 mul-at : tie.Need-mul-at
-mul-at c =
-    let a = c .before .before .before .args in
-    omega (arith, mul-le-mul-right {m = a .i} {n = 7} (c .wide .result) (omega arith))
+mul-at c = search needs
 
 add-at : tie.Need-add-at
-add-at c =
-    let a = c .before .before .before .args in
-    omega (arith, mul-le-mul-right {m = a .i} {n = 7} (c .wide .result) (omega arith))
+add-at c = search needs
+
+shared-slice-read-wide-2 : tie.Need-shared-slice-read-wide-2
+shared-slice-read-wide-2 c = search needs
+
+wide-requires-2 : tie.Need-wide-requires-2
+wide-requires-2 c κs = search needs
+
+mul-at-2 : tie.Need-mul-at-2
+mul-at-2 c =
+    let a = c .before .before .before .before .before .args in
+    let e : a .i * c .wide2 .result ≡ a .i * getD (a .room .now) 1 0 = ap (λ (x : ℕ). a .i * x) (c .wide2 .ensures .0) in
+    omega arith
+
+add-at-2 : tie.Need-add-at-2
+add-at-2 c =
+    let a = c .before .before .before .before .before .args in
+    let e : a .i * c .wide2 .result ≡ a .i * getD (a .room .now) 1 0 = ap (λ (x : ℕ). a .i * x) (c .wide2 .ensures .0) in
+    omega arith
 
 mul-place : tie.Need-mul-place
 mul-place c = search needs
@@ -35,32 +48,33 @@ place-requires c κs = search needs
 
 add-wide : tie.Need-add-wide
 add-wide c =
-    let a = c .before .before .before .before .args in
-    let e : a .i * c .before .wide .result ≡ a .i * getD (a .room .now) 1 0 = ap (λ (x : ℕ). a .i * x) (c .before .wide .ensures .0) in
+    let a = c .before .before .before .before .before .before .args in
+    let e : a .i * c .before .wide2 .result ≡ a .i * getD (a .room .now) 1 0 = ap (λ (x : ℕ). a .i * x) (c .before .wide2 .ensures .0) in
     omega arith
 
 mul-wide : tie.Need-mul-wide
 mul-wide c =
-    let a = c .before .before .before .before .args in
-    let e : a .i * c .before .wide .result ≡ a .i * getD (a .room .now) 1 0 = ap (λ (x : ℕ). a .i * x) (c .before .wide .ensures .0) in
+    let a = c .before .before .before .before .before .before .args in
+    let e : a .i * c .before .wide2 .result ≡ a .i * getD (a .room .now) 1 0 = ap (λ (x : ℕ). a .i * x) (c .before .wide2 .ensures .0) in
     omega arith
 
-shared-slice-read-wide-2 : tie.Need-shared-slice-read-wide-2
-shared-slice-read-wide-2 c =
-    let a = c .before .before .before .before .before .args in
-    let e : a .i * c .before .before .wide .result ≡ a .i * getD (a .room .now) 1 0 = ap (λ (x : ℕ). a .i * x) (c .before .before .wide .ensures .0) in
+shared-slice-read-wide-3 : tie.Need-shared-slice-read-wide-3
+shared-slice-read-wide-3 c =
+    let a = c .before .before .before .before .before .before .before .args in
+    let e : a .i * c .before .before .wide2 .result ≡ a .i * getD (a .room .now) 1 0 = ap (λ (x : ℕ). a .i * x) (c .before .before .wide2 .ensures .0) in
     omega arith
 
-wide-requires-2 : tie.Need-wide-requires-2
-wide-requires-2 c κs = search needs
+wide-requires-3 : tie.Need-wide-requires-3
+wide-requires-3 c κs = search needs
 
 add-result : tie.Need-add-result
 add-result c = search needs
 
 returns : tie.Need-returns
 returns c =
-    let a = c .before .before .before .before .before .before .args in
-    ap₂ (λ (x y : ℕ). x + y) (c .before .before .place .ensures .0) (c .wide2 .ensures .0 ∙ ap (λ (x : ℕ). getD (a .room .now) (36 + a .i * x + a .j) 0) (c .before .before .before .wide .ensures .0))
+    let a = c .before .before .before .before .before .before .before .before .args in
+    ap₂ (λ (x y : ℕ). x + y) (c .before .before .place .ensures .0)
+    (c .wide3 .ensures .0 ∙ ap₂ (λ (x y : ℕ). getD (a .room .now) (4 + 4 * x + a .i * y + a .j) 0) (c .before .before .before .before .before .wide .ensures .0) (c .before .before .before .wide2 .ensures .0))
 
 pub in-chain-spec : {M : Type 1} → statement M
 in-chain-spec =
@@ -70,12 +84,16 @@ in-chain-spec =
     wide-requires
     mul-at
     add-at
+    shared-slice-read-wide-2
+    wide-requires-2
+    mul-at-2
+    add-at-2
     mul-place
     add-place
     place-requires
     add-wide
     mul-wide
-    shared-slice-read-wide-2
-    wide-requires-2
+    shared-slice-read-wide-3
+    wide-requires-3
     add-result
     returns)

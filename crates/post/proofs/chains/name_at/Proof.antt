@@ -46,7 +46,7 @@ in-chain-requires : tie.Need-in-chain-requires
 in-chain-requires c κs =
     let a = c .before .before .before .before .before .before .before .before .args in
     let i = c .before .before .before .before .before .chain-of .result in
-    (omega arith, omega arith, omega (arith, slot-inside (a .post .now) (a .room .now) i (c .before .wide2 .result) (c .before .before .before .before .before .before .before .before .pre) (omega arith) (omega arith)))
+    (omega arith, omega (arith, slot-inside (a .post .now) (a .room .now) i (c .before .wide2 .result) (c .before .before .before .before .before .before .before .before .pre) (omega arith) (omega arith)))
 
 sub-walk : tie.Need-sub-walk
 sub-walk c = search needs
@@ -66,7 +66,7 @@ in-chain-requires-2 c κs =
     let a = c .before .before .before .before .before .before .before .before .args in
     let i = c .before .before .before .before .before .chain-of .result in
     let j = a .k - c .before .before .before .wide .result in
-    (omega arith, omega arith, omega (arith, slot-inside (a .post .now) (a .room .now) i j (c .before .before .before .before .before .before .before .before .pre) (omega arith) (omega arith)))
+    (omega arith, omega (arith, slot-inside (a .post .now) (a .room .now) i j (c .before .before .before .before .before .before .before .before .pre) (omega arith) (omega arith)))
 
 returns-2 : tie.Need-returns-2
 returns-2 c =

@@ -19,13 +19,25 @@ returns-2 c = search needs
 
 mul-at : tie.Need-mul-at
 mul-at c =
-    let a = c .before .before .before .before .args in
-    omega (arith, mul-le-mul-right {m = a .i} {n = 4} (a .q) (c .before .before .before .before .pre .0 .four-more), c .before .before .before .before .pre .0 .short)
+    let p = c .before .before .before .before .pre .0 in
+    omega (arith, p .room-for, p .short)
 
 add-at : tie.Need-add-at
 add-at c =
+    let p = c .before .before .before .before .pre .0 in
+    omega (arith, p .room-for, p .short)
+
+mul-at-2 : tie.Need-mul-at-2
+mul-at-2 c =
     let a = c .before .before .before .before .args in
-    omega (arith, mul-le-mul-right {m = a .i} {n = 4} (a .q) (c .before .before .before .before .pre .0 .four-more), c .before .before .before .before .pre .0 .short)
+    let p = c .before .before .before .before .pre .0 in
+    omega (arith, mul-le-mul-right {m = a .i} {n = a .chains} (a .q) (omega (arith, p .four-more)), p .room-for, p .short)
+
+add-at-2 : tie.Need-add-at-2
+add-at-2 c =
+    let a = c .before .before .before .before .args in
+    let p = c .before .before .before .before .pre .0 in
+    omega (arith, mul-le-mul-right {m = a .i} {n = a .chains} (a .q) (omega (arith, p .four-more)), p .room-for, p .short)
 
 guess-starts-requires : tie.Need-guess-starts-requires
 guess-starts-requires c κs = search needs
@@ -34,14 +46,14 @@ run-all-requires : tie.Need-run-all-requires
 run-all-requires c κs =
     let a = c .before .before .before .before .before .before .args in
     let p = c .before .before .before .before .before .before .pre in
-    let m = mul-le-mul-right {m = a .i + 4} {n = 8} (a .q) (omega (arith, p .0 .four-more)) in
+    let m = mul-le-mul-right {m = a .i + 4} {n = a .chains} (a .q) (omega (arith, p .0 .four-more)) in
     (c .before .guess-starts .ensures .0, p .1 .1, omega (arith, p .0 .room-for))
 
 run-rest-requires : tie.Need-run-rest-requires
 run-rest-requires c κs =
     let a = c .before .before .before .before .before .before .before .before .before .before .args in
     let p = c .before .before .before .before .before .before .before .before .before .before .pre in
-    let m = mul-le-mul-right {m = a .i + 4} {n = 8} (a .q) (omega (arith, p .0 .four-more)) in
+    let m = mul-le-mul-right {m = a .i + 4} {n = a .chains} (a .q) (omega (arith, p .0 .four-more)) in
     let r = c .before .before .before .run-all .ensures in
     ((c .before .before .before .before .before .guess-starts .ensures .0, p .1 .1, omega (arith, p .0 .room-for, r .same-length)), (r .four, r .fits))
 
@@ -57,7 +69,7 @@ returns-3 c =
     let p = c .before .before .before .before .before .before .before .before .before .before .before .before .before .before .before .before .before .before .before .pre in
     let r₁ = c .before .before .before .before .before .before .before .before .before .before .before .before .run-all .ensures in
     let r₂ = c .before .before .before .before .before .before .before .before .run-rest .ensures in
-    rounded-behind (a .post .now) (a .q) (a .i) (a .from .n) (a .room .now) _ _ (c .before .before .finish .result) (p .0 .four-more) (c .before .before .finish .ensures) (λ x h. r₂ .front x h ∙ r₁ .front x h) (r₂ .same-length ∙ r₁ .same-length)
+    rounded-behind (a .post .now) (a .q) (a .chains) (a .i) (a .from .n) (a .room .now) _ _ (c .before .before .finish .result) (p .0 .four-more) (c .before .before .finish .ensures) (λ x h. r₂ .front x h ∙ r₁ .front x h) (r₂ .same-length ∙ r₁ .same-length)
 
 finish-requires : tie.Need-finish-requires
 finish-requires c κs =
@@ -67,7 +79,7 @@ finish-requires c κs =
     let r₂ = c .before .before .before .before .before .run-rest .ensures in
     let l = c .before .before .before .before .before .before .before .before .before .before .before .guess-starts .ensures in
     let j = c .before .before .met .ensures (c .before .if3 .taken) in
-    ((led-room (a .post .now) (a .q) (a .i) (a .room .now) _ (a .from) (p .0) (λ x h. r₂ .front x h ∙ r₁ .front x h) (r₂ .same-length ∙ r₁ .same-length), l .0, p .1 .1), (r₂ .four, j, r₂ .fits, l .1))
+    ((led-room (a .post .now) (a .q) (a .chains) (a .i) (a .room .now) _ (a .from) (p .0) (λ x h. r₂ .front x h ∙ r₁ .front x h) (r₂ .same-length ∙ r₁ .same-length), l .0, p .1 .1), (r₂ .four, j, r₂ .fits, l .1))
 
 same-length-2 : tie.Need-same-length-2
 same-length-2 c = search needs
@@ -84,6 +96,8 @@ round-spec =
     returns-2
     mul-at
     add-at
+    mul-at-2
+    add-at-2
     guess-starts-requires
     run-all-requires
     run-rest-requires
