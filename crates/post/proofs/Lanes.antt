@@ -391,13 +391,13 @@ made-more b q c i first p n room after start m a =
           (λ t. a .chains j (ltb-false j i t) h);
     }
 
-pub made-all : (b : Bytes) (q c : ℕ) (room : List ℕ) → 0 < c → 4 + 4 * c + c * q ≤ length room → Made b q c c room → (getD room 0 0 ≡ 0) × Chained b room
-made-all b q c room some long m = (
+pub made-all : (b : Bytes) (q c : ℕ) (room : List ℕ) → 8 ≤ c → 4 + 4 * c + c * q ≤ length room → Made b q c c room → (getD room 0 0 ≡ 0) × Chained b room
+made-all b q c room eight long m = (
   m .mark,
   record {
-    some = omega (arith, m .number);
+    eight = omega (arith, m .number);
     inside = rw (m .number, m .share) long;
-    from-first = m .from-first some;
+    from-first = m .from-first (omega arith);
     chains = λ i h. m .chains i (omega (arith, m .number));
   },
 )
@@ -471,20 +471,6 @@ rounds-turn b q c i i' p n room₀ room after from l r e four a ep en =
       first = λ z. absurd (omega arith);
       same-length = a .same-length ∙ r .same-length;
     }
-
--- halved three times, so many chains are less than all
-halved : (m : ℕ) → 0 < m → m / 2 < m
-halved m h = omega arith
-
-pub eighth-inside : (i m a b len : ℕ) → 0 < m → 4 + 4 * (i + m) ≤ len → a ≤ i + m / 2 → b ≤ a + (m - m / 2) / 2
-    → 8 + 4 * (b + (m - m / 2 - (m - m / 2) / 2) / 2) ≤ len
-eighth-inside i m a b len some h =
-    let l₁ = halved m some in
-    let l₂ = halved (m - m / 2) (omega arith) in
-    within (m / 2) ((m - m / 2) / 2) ((m - m / 2 - (m - m / 2) / 2) / 2) l₁ l₂ (halved (m - m / 2 - (m - m / 2) / 2) (omega arith))
-  where
-    within : (x y z : ℕ) → x < m → y < m - x → z < m - x - y → a ≤ i + x → b ≤ a + y → 8 + 4 * (b + z) ≤ len
-    within x y z p q r s t = omega arith
 
 -- a name's place in its chain
 pub slot-inside : (b : Bytes) (room : List ℕ) (i j : ℕ) → Chained b room → i < getD room 2 0 → j ≤ getD room (7 + 4 * i) 0 → 4 + 4 * getD room 2 0 + i * getD room 1 0 + j < length room

@@ -42,7 +42,7 @@ pub record Strided (b : Bytes) (room : List ℕ) : Type 0 where
   pub inside : 2 * getD room 1 0 + 1 < length room
   pub places : (j : ℕ) → 0 < j → j ≤ getD room 1 0 → Stands b (placeIn room j) (j * getD room 0 0)
 
--- By chains: as many as number 2 says, each with as many numbers as number 1 says, behind the heads of all. The head of chain i, at 4 + 4i, is the
+-- By chains: as many as number 2 says, eight or more, each with as many numbers as number 1 says, behind the heads of all. The head of chain i, at 4 + 4i, is the
 -- place of its first name, that name's number, and the number in the chain of the last name held; a name is held by its distance from the first.
 pub record ChainAt (b : Bytes) (room : List ℕ) (i : ℕ) : Type 0 where
   pub few : getD room (7 + 4 * i) 0 < getD room 1 0
@@ -50,7 +50,7 @@ pub record ChainAt (b : Bytes) (room : List ℕ) (i : ℕ) : Type 0 where
       → Stands b (placeIn room (2 + 2 * i) + getD room (4 + 4 * getD room 2 0 + i * getD room 1 0 + j) 0) (getD room (6 + 4 * i) 0 + j)
 
 pub record Chained (b : Bytes) (room : List ℕ) : Type 0 where
-  pub some : 0 < getD room 2 0
+  pub eight : 8 ≤ getD room 2 0
   pub inside : 4 + 4 * getD room 2 0 + getD room 2 0 * getD room 1 0 ≤ length room
   pub from-first : getD room 6 0 ≡ 0
   pub chains : (i : ℕ) → i < getD room 2 0 → ChainAt b room i

@@ -58,7 +58,7 @@ pub fn fill(post: &[u8], want: usize, lookups: usize, room: &mut [u16]) -> bool
     let count = names::wide(read::u16_at(post, 32));
     let start = 34 + 2 * count;
     let end = estimate(post.len(), start, want, count);
-    let rounds = 1 + (end - start) / 250000;
+    let rounds = rounds_for(end - start);
     let chains = 4 * rounds;
     if room.len() < 4 + 4 * chains + want + want / 4 {
         return false;
@@ -86,8 +86,19 @@ fn estimate(len: usize, start: usize, want: usize, count: usize) -> usize
     start + part
 }
 
-// The list's parts, one round each, from where the last one ended. The last round stands apart since it goes on to the name that is
-// wanted; and a function that is called from two places stays one by itself: put into this one, its loops took 1.2 times as long.
+// Two, or as many as leave 250,000 bytes to each: none may have more than 260,000, and one starts a little before or behind its part.
+fn rounds_for(len: usize) -> usize
+    requires { ⌜ len ≤ 4294967295 ⌝ }
+    ensures { λ r. ⌜ (2 ≤ r) × (r ≤ 17180) ⌝ }
+{
+    if len <= 500000 {
+        return 2;
+    }
+    1 + len / 250000
+}
+
+// The list's parts, a round each, from where the one before ended. The last stands apart: it goes on to the name that is wanted. And
+// since `round` is called from two places LLVM leaves it by itself: put into the caller, the call took 1.15 times as long.
 fn all_rounds(
     post: &[u8],
     want: usize,
@@ -98,8 +109,8 @@ fn all_rounds(
     end: usize,
 ) -> bool
     requires { ⌜ (start ≡ 34 + 2 * word16 (now post) 32) × (start ≤ end) × (end ≤ length (now post)) × (length (now post) ≤ 4294967295) ⌝ }
-    requires { ⌜ (0 < rounds) × (4 + 4 * (4 * rounds) + 4 * rounds * q ≤ length (now room)) × (length (now room) ≤ 131072) × (q ≤ 32768) ⌝ }
-    requires { ⌜ (want ≤ 65278) × (getD (now room) 0 0 ≡ 0) × (getD (now room) 1 0 ≡ q) × (getD (now room) 2 0 ≡ 4 * rounds) ⌝ }
+    requires { ⌜ (2 ≤ rounds) × (4 + 4 * (4 * rounds) + 4 * rounds * q ≤ length (now room)) × (length (now room) ≤ 131072) × (q ≤ 32768) ⌝ }
+    requires { ⌜ (getD (now room) 0 0 ≡ 0) × (getD (now room) 1 0 ≡ q) × (getD (now room) 2 0 ≡ 4 * rounds) ⌝ }
     ensures { λ r. ⌜ (r ≡ true → (getD (now (room .exit)) 0 0 ≡ 0) × Chained (now (post .entry)) (now (room .exit))) ⌝ }
 {
     let part = (end - start) / rounds;
@@ -189,7 +200,7 @@ fn finish(
     Reached::To(d.p, n + d.n)
 }
 
-// Each at the first byte behind its part of the way that no name holds: below '-', or where none is, as in names of 255 bytes, above 'z'.
+// Each at the first byte behind its part of the way that no name holds: below '-', or if there is none, above 'z'.
 fn guess_starts(post: &[u8], start: usize, end: usize) -> Starts
     requires { ⌜ (start < end) × (end ≤ start + 260000) × (end ≤ length (now post)) × (length (now post) ≤ 4294967295) ⌝ }
     ensures { λ r. ⌜ Spaced (now (post .entry)) r × (r .a ≡ start) ⌝ }
@@ -454,33 +465,25 @@ fn in_chain(room: &[u16], i: usize, j: usize) -> usize
     names::place(room, 2 + 2 * i) + names::wide(room[at + j])
 }
 
-// The last chain whose first name isn't behind name k, by halving. There are more than eight chains in huge lists only: the steps for
-// eight stand apart, since LLVM makes branches of those in a loop, which are guessed wrong half the time.
+// The last chain whose first name isn't behind name k, by halving. Only huge lists have more than eight chains, so that the last steps
+// are always for eight: in a loop LLVM makes branches of them, and half of those are guessed wrong.
 fn chain_of(room: &[u16], k: usize) -> usize
-    requires { ⌜ (0 < getD (now room) 2 0) × (4 + 4 * getD (now room) 2 0 ≤ length (now room)) × (getD (now room) 6 0 ≡ 0) ⌝ }
+    requires { ⌜ (8 ≤ getD (now room) 2 0) × (4 + 4 * getD (now room) 2 0 ≤ length (now room)) × (getD (now room) 6 0 ≡ 0) ⌝ }
     ensures { λ r. ⌜ (r < getD (now (room .entry)) 2 0) × (getD (now (room .entry)) (6 + 4 * r) 0 ≤ k) ⌝ }
 {
     let mut i = 0;
     let mut more = names::wide(room[2]);
     while 8 < more {
-        let half = more / 2;
-        i = later(room, i, half, k);
-        more -= half;
+        let mut step = more / 2;
+        if more < step + 8 {
+            step = more - 8;
+        }
+        i = later(room, i, step, k);
+        more -= step;
     }
-    of_eight(room, i, more, k)
-}
-
-// The same among so many chains from i on, eight at most.
-fn of_eight(room: &[u16], i: usize, more: usize, k: usize) -> usize
-    requires { ⌜ (0 < more) × (4 + 4 * (i + more) ≤ length (now room)) × (getD (now room) (6 + 4 * i) 0 ≤ k) ⌝ }
-    ensures { λ r. ⌜ (r < i + more) × (getD (now (room .entry)) (6 + 4 * r) 0 ≤ k) ⌝ }
-{
-    let half = more / 2;
-    let quarter = (more - half) / 2;
-    let last = (more - half - quarter) / 2;
-    let a = later(room, i, half, k);
-    let b = later(room, a, quarter, k);
-    later(room, b, last, k)
+    let half = later(room, i, 4, k);
+    let quarter = later(room, half, 2, k);
+    later(room, quarter, 1, k)
 }
 
 // So many chains further on, if name k isn't in front of that one.

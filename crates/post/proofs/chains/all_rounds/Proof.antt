@@ -27,7 +27,7 @@ loop-holds : tie.Need-loop-holds Inv-loop μ-loop
 loop-holds c =
     let a = c .before .before .args in
     let p = c .before .before .pre in
-    (rounds-start (a .post .now) (a .q) (4 * a .rounds) (a .room .now) _ (p .0 .0) refl (omega arith) (p .1 .0 .1) (p .1 .0 .2) (p .1 .0 .3) (p .1 .1 .1) (p .1 .1 .2) (p .1 .1 .3), omega arith)
+    (rounds-start (a .post .now) (a .q) (4 * a .rounds) (a .room .now) _ (p .0 .0) refl (omega arith) (p .1 .0 .1) (p .1 .0 .2) (p .1 .0 .3) (p .1 .1 .0) (p .1 .1 .1) (p .1 .1 .2), omega arith)
 
 add-loop : tie.Need-add-loop Inv-loop μ-loop
 add-loop c = search needs

@@ -30,11 +30,11 @@ add-start c = search needs
 estimate-requires : tie.Need-estimate-requires
 estimate-requires c κs = search needs
 
-sub-rounds : tie.Need-sub-rounds
-sub-rounds c = search needs
+sub-rounds-for : tie.Need-sub-rounds-for
+sub-rounds-for c = search needs
 
-add-rounds : tie.Need-add-rounds
-add-rounds c = search needs
+rounds-for-requires : tie.Need-rounds-for-requires
+rounds-for-requires c κs = search needs
 
 mul-chains : tie.Need-mul-chains
 mul-chains c = search needs
@@ -71,8 +71,8 @@ slice-write-room c = search needs
 
 cast-room : tie.Need-cast-room
 cast-room c =
-    let a = c .before .before .before .before .before .before .before .before .args in
-    let n = 4 * (1 + (c .before .estimate .result - (34 + 2 * c .before .before .wide .result)) / 250000) in
+    let a = c .before .before .before .before .before .before .before .before .before .args in
+    let n = 4 * c .before .rounds-for .result in
     omega (arith, share-fits (length (a .room .now)) n (omega arith) (omega arith) (omega arith) .1)
 
 slice-write-room-2 : tie.Need-slice-write-room-2
@@ -86,12 +86,12 @@ slice-write-room-3 c = simp length-set (omega arith)
 
 all-rounds-requires : tie.Need-all-rounds-requires
 all-rounds-requires c κs =
-    let a = c .before .before .before .before .before .before .before .before .before .args in
-    let n = 4 * (1 + (c .before .before .estimate .result - (34 + 2 * c .before .before .before .wide .result)) / 250000) in
+    let a = c .before .before .before .before .before .before .before .before .before .before .args in
+    let n = 4 * c .before .before .rounds-for .result in
     let q = (length (a .room .now) - 4 - 4 * n) / n in
     let f = share-fits (length (a .room .now)) n (omega arith) (omega arith) (omega arith) in
     let m = marked (a .room .now) q n (omega arith) in
-    ((omega arith, omega arith, omega arith, omega arith), ((omega arith, simp length-set (f .0), simp length-set (omega arith), f .1), (omega arith, m .0, m .1, m .2)))
+    ((omega arith, omega arith, omega arith, omega arith), ((omega arith, simp length-set (f .0), simp length-set (omega arith), f .1), m))
 
 same-length : tie.Need-same-length
 same-length c = simp length-set at (c .before .room .given)
@@ -110,8 +110,8 @@ fill-spec =
     mul-start
     add-start
     estimate-requires
-    sub-rounds
-    add-rounds
+    sub-rounds-for
+    rounds-for-requires
     mul-chains
     mul-if3
     add-if3

@@ -1,4 +1,4 @@
--- Each start is 64 bytes at most behind its quarter, and a quarter is 65,000 at most.
+-- Each start is 256 bytes at most behind its quarter, and a quarter is 65,000 at most.
 use borrow.Author.Needs.{needs}
 use Rattle.post.proofs.chains.guess_starts.Statement.{statement}
 use Rattle.post.proofs.chains.guess_starts.Tie as tie
