@@ -74,6 +74,16 @@ fn names() -> Vec<Made> {
             format!("name: 5,460 records, {distinct} strings of {length} bytes that share {}", length - 2);
         cases.push(made(what, Build::empty(1).with(b"name", name(&records, &storage)), 1, vec![]));
     }
+    // As many distinct strings as there may be, in scattered order, whatever they are sorted by.
+    let mut storage = vec![];
+    let mut records = vec![];
+    for i in 0..5_460 {
+        records.push((12, storage.len()));
+        storage.extend([b'x'; 10]);
+        push16(&mut storage, i * 2_357 % 5_460);
+    }
+    let what = "name: 5,460 records, 5460 strings of 12 bytes in scattered order";
+    cases.push(made(what, Build::empty(1).with(b"name", name(&records, &storage)), 1, vec![]));
     // Strings that lie over each other: the storage is one byte repeated, each string a byte longer.
     let records: Vec<_> = (0..5_460).map(|i| (i % 361, i / 361)).collect();
     let what = "name: 5,460 records, strings of 0 to 360 bytes over each other";

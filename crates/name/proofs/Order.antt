@@ -1,5 +1,6 @@
 -- The order of the first uses by their strings: a comparison leaves half of the places, a string that belongs between two places stands at none, and a place more keeps the order.
 use mathlib.Core.Path.{_≡_, refl, sym, ap, _∙_}
+use mathlib.Core.Bool.{true, false}
 use mathlib.Core.List.{List}
 use Prim.Native.Nat.{ℕ, zero, suc, _+_, _*_, _-_, _/_, _≤_, _<_}
 use native.Mathlib.Omega.{arith}
@@ -9,8 +10,11 @@ use lib.ListN.{length, drop, getD, set, length-take, length-drop, length-set}
 use lib.Seq.{ext-getD, getD-take, getD-drop, getD-set-same, getD-set-other}
 use borrow.Author.Tests.{ltb-true, ltb-false, eqb-true, eqb-false}
 use Rattle.model.specs.Bytes.{Bytes}
-use Rattle.name.specs.Rows.{stringStart, stringLength, stringAt, eightAt, key, orderedAt, Before, Standing, Ordered, Between, Inserted, Alike, Inside, Searchable, Sought}
+use Rattle.name.specs.Rows.{stringStart, stringLength, stringAt, placeOf, key, orderedAt, Before, Standing, Ordered, Between, Inserted, Alike, Compared, Inside, Searchable, Sought, Sortable}
+use Rattle.name.specs.Hashed.{eightAt}
+use Rattle.name.specs.declared.Found.{Found}
 use Rattle.name.specs.declared.Found.the-variants.{At, Nowhere}
+use Rattle.model.proofs.Res.{true-false}
 use Rattle.name.proofs.Rows.{by}
 
 -- no string comes before itself, and what comes before one that comes before a third comes before the third
@@ -120,6 +124,43 @@ module _ (b : Bytes) (at start size : ℕ) where
       let n : k + (j + 8) ≡ k + j + 8 = omega arith in
       rw n (alike-eight (k + j) a byte h (ap (eightAt b) (sym p) ∙ sym ex ∙ e ∙ ey ∙ ap (eightAt b) q))
 
+-- all of their bytes are compared: some word differs, or the last one, which lies over others, is equal too
+module _ (b : Bytes) (at start size : ℕ) where
+  eight-alike : Alike b at start size size → (k : ℕ) → k + 8 ≤ size → eightAt b (at + k) ≡ eightAt b (start + k)
+  unfolding eightAt
+  eight-alike a k h =
+      let e : (m : ℕ) → m < 8 → getD b (at + k + m) 0 ≡ getD b (start + k + m) 0 =
+      λ m l.
+      (let p : at + k + m ≡ at + (k + m) = omega arith in
+      let q : start + k + m ≡ start + (k + m) = omega arith in
+      rw (p, q) (a .same (k + m) (omega arith))) in
+      let e0 : getD b (at + k) 0 ≡ getD b (start + k) 0 = a .same k (omega arith) in
+      rw (e0, e 1 (omega arith), e 2 (omega arith), e 3 (omega arith), e 4 (omega arith), e 5 (omega arith), e 6 (omega arith), e 7 (omega arith))
+
+  pub compared-equal : Alike b at start size size → Compared b at start size true
+  compared-equal a = record { equal = λ e. a; differ = λ e. true-false e }
+
+  pub compared-byte : (k : ℕ) → k < size → (getD b (at + k) 0 ≡ getD b (start + k) 0 → ⊥) → Compared b at start size false
+  compared-byte k h n = record { equal = λ e. true-false (sym e); differ = λ e a. n (a .same k h) }
+
+  pub compared-word : (k x y : ℕ) → k + 8 ≤ size → x ≡ eightAt b (at + k) → y ≡ eightAt b (start + k) → (x ≡ y → ⊥) → Compared b at start size false
+  compared-word k x y h ex ey n = record { equal = λ e. true-false (sym e); differ = λ e a. n (ex ∙ eight-alike a k h ∙ sym ey) }
+
+  pub compared-last : (k x y : ℕ) → Alike b at start size k → size < k + 8 → 8 ≤ size → ((i : ℕ) → getD b i 0 < 256)
+      → x ≡ eightAt b (at + (size - 8)) → y ≡ eightAt b (start + (size - 8)) → x ≡ y → Compared b at start size true
+  compared-last k x y a h g byte ex ey e =
+      compared-equal (record {
+        within = omega arith;
+        same = λ i l.
+            by (ltb i k)
+            (λ f. a .same i (ltb-true _ _ f))
+            (λ f.
+            let t = ltb-false i k f in
+            let p : at + i ≡ at + (size - 8) + (i - (size - 8)) = omega arith in
+            let q : start + i ≡ start + (size - 8) + (i - (size - 8)) = omega arith in
+            rw (p, q) (eight-same b byte (at + (size - 8)) (start + (size - 8)) (sym ex ∙ e ∙ ey) (i - (size - 8)) (omega arith)));
+      })
+
 -- the strings of two rows: shorter ones come first, then the first byte that differs decides
 module _ (b : Bytes) (f i : ℕ) (hf : Inside b f) (hi : Inside b i) where
   pub shorter-before : stringLength b f < stringLength b i → Before (stringAt b f) (stringAt b i)
@@ -144,6 +185,11 @@ module _ (b : Bytes) (f i : ℕ) (hf : Inside b f) (hi : Inside b i) where
         let lf : length (stringAt b f) ≡ size = length-string b f hf ∙ ef in
         let li : length (stringAt b i) ≡ size = length-string b i hi ∙ ei in
         ext-getD 0 (stringAt b f) (stringAt b i) (lf ∙ sym li) (λ m l. byte-f m (omega arith) ∙ a .same m (omega arith) ∙ sym (byte-i m (omega arith)))
+
+    -- and back: bytes of equal strings are equal
+    pub alike-strings : stringAt b f ≡ stringAt b i → Alike b at start size size
+    alike-strings e =
+        record { within = omega arith; same = λ m h. sym (byte-f m h) ∙ ap (λ (s : Bytes). getD s m 0) e ∙ byte-i m h }
 
     pub alike-before : k < size → getD b (at + k) 0 < getD b (start + k) 0 → Before (stringAt b f) (stringAt b i)
     unfolding key
@@ -262,25 +308,22 @@ split k p f g h =
     let n : k ≡ p → ⊥ = eqb-false k p d in
     h (k - 1) (omega arith) (omega arith)))
 
--- a first use more: its number is given its place
-module _ (b : Bytes) (firsts order new : List ℕ) (used row p : ℕ) (room : used < length firsts) (o : Ordered b firsts order used)
-    (w : Between b firsts order used (stringAt b row) p p) (n : Inserted order new used p) where
-  rows-old : (j : ℕ) → j < used → getD (set firsts used row) j 0 ≡ getD firsts j 0
-  rows-old j h = getD-set-other firsts used j row 0 (λ e. omega arith)
-
-  below-at : (k : ℕ) → k < p → orderedAt b (set firsts used row) new k ≡ orderedAt b firsts order k
+-- a first use more: its number is given its place in the order
+module _ (b : Bytes) (firsts more order new : List ℕ) (used row p : ℕ) (rows-old : (j : ℕ) → j < used → getD more j 0 ≡ getD firsts j 0) (rows-new : getD more used 0 ≡ row)
+    (o : Ordered b firsts order used) (w : Between b firsts order used (stringAt b row) p p) (n : Inserted order new used p) where
+  below-at : (k : ℕ) → k < p → orderedAt b more new k ≡ orderedAt b firsts order k
   unfolding orderedAt
   below-at k h = rw (n .below k h) (ap (stringAt b) (rows-old (getD order k 0) (o .number k (omega (arith, w .within)))))
 
-  here-at : orderedAt b (set firsts used row) new p ≡ stringAt b row
+  here-at : orderedAt b more new p ≡ stringAt b row
   unfolding orderedAt
-  here-at = rw (n .here) (ap (stringAt b) (getD-set-same firsts used row 0 room))
+  here-at = rw (n .here) (ap (stringAt b) rows-new)
 
-  above-at : (k : ℕ) → p ≤ k → k < used → orderedAt b (set firsts used row) new (k + 1) ≡ orderedAt b firsts order k
+  above-at : (k : ℕ) → p ≤ k → k < used → orderedAt b more new (k + 1) ≡ orderedAt b firsts order k
   unfolding orderedAt
   above-at k h l = rw (n .above k h l) (ap (stringAt b) (rows-old (getD order k 0) (o .number k l)))
 
-  ascending-more : (k l : ℕ) → k < l → l < used + 1 → Before (orderedAt b (set firsts used row) new k) (orderedAt b (set firsts used row) new l)
+  ascending-more : (k l : ℕ) → k < l → l < used + 1 → Before (orderedAt b more new k) (orderedAt b more new l)
   ascending-more k l h t =
       split l p
       (λ e. rw (below-at k (omega arith), below-at l e) (o .ascending k l h (omega (arith, w .within))))
@@ -310,8 +353,37 @@ module _ (b : Bytes) (firsts order new : List ℕ) (used row p : ℕ) (room : us
       let g : used ≡ j = omega (arith, ltb-false j used e) in
       record { place = p; below = omega (arith, w .within); there = n .here ∙ g })
 
-  pub ordered-more : Ordered b (set firsts used row) new (used + 1)
+  pub ordered-more : Ordered b more new (used + 1)
   ordered-more = record { number = number-more; every = every-more; ascending = ascending-more }
+
+pub ordered-none : (b : Bytes) (firsts order : List ℕ) → Ordered b firsts order 0
+ordered-none b firsts order =
+    record { number = λ k h. absurd (omega arith); every = λ j h. absurd (omega arith); ascending = λ k l h t. absurd (omega arith) }
+
+-- numbers put in order one by one: a string that differs from all before it is found nowhere
+sought-new : (b : Bytes) (firsts order : List ℕ) (used i : ℕ) (f : Found) → Sought b firsts order used i f
+    → ((j : ℕ) → j < used → stringAt b (getD firsts j 0) ≡ stringAt b i → ⊥) → Between b firsts order used (stringAt b i) (placeOf f) (placeOf f)
+sought-new b firsts order used i (At j) s n = absurd (n j (s .at j refl .0) (s .at j refl .1))
+sought-new b firsts order used i (Nowhere p) s n = s .nowhere p refl
+
+module _ (b : Bytes) (firsts order₀ order : List ℕ) (used k : ℕ) (q : Sortable b firsts order₀ used) (same : length order ≡ length order₀) (h : k < used)
+    (o : Ordered b firsts order k) where
+  pub sort-searchable : Searchable b firsts order k (getD firsts k 0)
+  sort-searchable =
+      record {
+        sought = q .among k h;
+        among = λ j l. q .among j (omega arith);
+        ordered = o;
+        rows = omega (arith, q .rows);
+        places = omega (arith, q .places);
+      }
+
+  module _ (f : Found) (s : Sought b firsts order k (getD firsts k 0) f) where
+    pub sort-place : Between b firsts order k (stringAt b (getD firsts k 0)) (placeOf f) (placeOf f)
+    sort-place = sought-new b firsts order k (getD firsts k 0) f s (λ j l e. q .apart .differ j k l h e)
+
+    pub sort-next : (new : List ℕ) → Inserted order new k (placeOf f) → Ordered b firsts new (k + 1)
+    sort-next new n = ordered-more b firsts firsts order new k (getD firsts k 0) (placeOf f) (λ j l. refl) refl o sort-place n
 
 -- the loop that moves numbers on by one: those from place k on have moved
 pub record Moved (old new : List ℕ) (used k : ℕ) : Type 0 where

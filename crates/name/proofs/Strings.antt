@@ -1,21 +1,23 @@
 -- The distinct strings row by row: a kept string is one of them already, or becomes the last; what is stored keeps its offset.
 use mathlib.Core.Path.{_≡_, refl, sym, ap, ap₂, _∙_}
-use mathlib.Core.Bool.{true, false}
+use mathlib.Core.Bool.{Bool, true, false}
 use mathlib.Core.List.{List, [], _∷_, _++_, map, append-assoc, append-nil, map-append}
 use Prim.Native.Nat.{ℕ, zero, suc, _+_, _-_, _≤_, _<_}
 use native.Mathlib.Omega.{arith}
 use native.Mathlib.Nat.{zero-add}
 use native.Mathlib.Numerals.{add-one}
 use lib.Dec.{eqb, ltb}
-use lib.ListN.{length, take, getD, length-append, length-set, set, List·getD-append}
+use lib.ListN.{length, take, getD, replicate, length-replicate, getD-replicate, length-append, length-set, set, List·getD-append}
 use lib.Seq.{getD-at, take-suc-set, length-take-le, getD-take, getD-set-same, getD-set-other}
 use borrow.Author.Tests.{eq-eqb, eqb-true, ltb-true, ltb-false, le-leb, lt-leb}
 use Rattle.model.specs.Res.{refuse, ok, pick}
 use Rattle.model.specs.Bytes.{Bytes, word16, concat, sameBytes}
 use Rattle.model.specs.Name.{NameEntry, stored?, store, offsetOf}
 use Rattle.model.proofs.Res.{both-true, true-false}
-use Rattle.name.specs.Rows.{stringLength, stringAt, keptAt, entryAt, entries, strings, firstRows, distinctBytes, Between, Inserted, Inside, Searchable, Uses, Roomy, Lent, Notable}
+use Rattle.name.specs.Rows.{stringLength, stringAt, keptAt, entryAt, entries, strings, firstRows, distinctBytes, Between, Ordered, Inserted, Buckets, Cleared, Apart, Linked, Arranged, Inside, Searchable, Walkable, Sortable, Uses, Roomy, Lent, Notable}
+use Rattle.name.specs.Hashed.{bucketOf}
 use Rattle.name.proofs.Rows.{by, entries-kept, entries-skip}
+use Rattle.name.proofs.Links.{linked-more}
 use Rattle.name.proofs.Order.{length-string, between-absent, ordered-more}
 
 pub concat-append : (xs ys : List Bytes) → concat (xs ++ ys) ≡ concat xs ++ concat ys
@@ -170,6 +172,21 @@ firsts-inside b (suc n) t =
     (λ e. rw (firsts-new b n k e) (snoc-each (Inside b) (firstRows b n) n ih (t n (omega arith) k))))
     (λ k. rw (firsts-skip b n k) ih))
 
+-- what holds of arrays of one length, and of first uses in order
+pub buckets-same : (heads new : List ℕ) → Buckets heads → length new ≡ length heads → Buckets new
+buckets-same heads new c e = record { some = omega (arith, c .some); few = omega (arith, c .few) }
+
+pub cleared-zero : (n : ℕ) → 0 < n → n ≤ 4096 → Cleared (replicate n 0)
+cleared-zero n h k =
+    record {
+      buckets = record { some = rw (length-replicate {A = ℕ} n 0) h; few = rw (length-replicate {A = ℕ} n 0) k };
+      zero = λ j l. getD-replicate {A = ℕ} n j 0 0 (rw (length-replicate {A = ℕ} n 0) at l);
+    }
+
+pub arranged-ordered : (b : Bytes) (firsts links heads : List ℕ) (used : ℕ) (sorted : Bool) → Buckets heads → Ordered b firsts links used → sorted ≡ true
+    → Arranged b firsts links heads used sorted
+arranged-ordered b firsts links heads used sorted c o e = record { buckets = c; ordered = λ q. o; linked = λ q. true-false (sym e ∙ q) }
+
 -- a kept row's string is noted: the first uses and their bytes so far, before and after
 module _ (b : Bytes) (firsts offsets order : List ℕ) (used end row : ℕ) (n : Notable b row firsts offsets order used end) where
   pub used-few : used < length (entries b (word16 b 2))
@@ -180,16 +197,47 @@ module _ (b : Bytes) (firsts offsets order : List ℕ) (used end row : ℕ) (n :
   pub used-room : used < length firsts
   used-room = omega (arith, used-few, n .lent .room .room)
 
-  pub used-searchable : Searchable b firsts order used row
-  used-searchable =
+  pub row-inside : Inside b row
+  row-inside = n .lent .room .tested .inside row (n .row) (n .kept)
+
+  used-inside : (j : ℕ) → j < used → Inside b (getD firsts j 0)
+  used-inside j h =
       let q : (j : ℕ) → j < length (take used firsts) → Inside b (getD (take used firsts) j 0) =
       rw (n .uses .rows) (firsts-inside b row (λ i l k. n .lent .room .tested .inside i (omega (arith, n .row)) k)) in
+      rw (getD-take used firsts j 0 h) at (q j (rw (length-take-le used firsts (n .uses .room)) h))
+
+  pub used-searchable : Ordered b firsts order used → Searchable b firsts order used row
+  used-searchable o =
       record {
-        sought = n .lent .room .tested .inside row (n .row) (n .kept);
-        among = λ j h. rw (getD-take used firsts j 0 h) at (q j (rw (length-take-le used firsts (n .uses .room)) h));
-        ordered = n .uses .ordered;
+        sought = row-inside;
+        among = used-inside;
+        ordered = o;
         rows = n .uses .room;
         places = omega (arith, n .uses .room, n .lent .third);
+      }
+
+  pub used-walkable : (heads : List ℕ) (bucket : ℕ) → Linked b firsts order heads used → bucket < length heads → bucket ≡ bucketOf (stringAt b row) (length heads)
+      → Walkable b firsts order heads bucket row
+  used-walkable heads bucket l h e =
+      record {
+        used = used;
+        sought = row-inside;
+        among = used-inside;
+        rows = n .uses .room;
+        places = omega (arith, n .uses .room, n .lent .third);
+        linked = l;
+        within = h;
+        its = e;
+      }
+
+  pub used-sortable : Apart b firsts used → Sortable b firsts order used
+  used-sortable a =
+      record {
+        among = used-inside;
+        rows = n .uses .room;
+        places = omega (arith, n .uses .room, n .lent .third);
+        few = omega (arith, used-few, n .lent .room .few);
+        apart = a;
       }
 
   -- the strings of the noted rows are the distinct strings so far
@@ -201,7 +249,7 @@ module _ (b : Bytes) (firsts offsets order : List ℕ) (used end row : ℕ) (n :
       rw (noted-strings, getD-take used firsts j 0 h) at (stored-at b (take used firsts) j (rw (length-take-le used firsts (n .uses .room)) h))
 
   pub noted-old : (j o : ℕ) → j < used → stringAt b (getD firsts j 0) ≡ stringAt b row → o ≡ getD offsets j 0
-      → Uses b (row + 1) firsts offsets order used end × (o ≡ offsetOf (stringAt b row) (strings b (row + 1)))
+      → Uses b (row + 1) firsts offsets used end × (o ≡ offsetOf (stringAt b row) (strings b (row + 1)))
   noted-old j o h e eo =
       let t : stored? (stringAt b row) (strings b row) ≡ true = rw e at (noted-stored j h) in
       let q = strings-old b row (n .kept) t in (
@@ -210,18 +258,17 @@ module _ (b : Bytes) (firsts offsets order : List ℕ) (used end row : ℕ) (n :
           room = n .uses .room;
           bytes = n .uses .bytes ∙ ap (λ xs. length (concat xs)) (sym q);
           starts = rw q (n .uses .starts);
-          ordered = n .uses .ordered;
         },
         eo ∙ n .uses .starts j h ∙ ap (λ (x : Bytes). offsetOf x (strings b row)) e ∙ ap (offsetOf (stringAt b row)) (sym q),
       )
 
-  module _ (new : List ℕ) (p : ℕ) (w : Between b firsts order used (stringAt b row) p p) where
+  module _ (absent : (j : ℕ) → j < used → stringAt b (getD firsts j 0) ≡ stringAt b row → ⊥) where
     not-stored : stored? (stringAt b row) (strings b row) ≡ false
     not-stored =
         rw noted-strings
         at (stored-none b (stringAt b row) (take used firsts) (λ j h e.
         let l : j < used = rw (length-take-le used firsts (n .uses .room)) at h in
-        between-absent b firsts order used (stringAt b row) (n .uses .ordered) p p w refl j l (rw (getD-take used firsts j 0 l) at e)))
+        absent j l (rw (getD-take used firsts j 0 l) at e)))
 
     starts-new : (j : ℕ) → j < used + 1 → getD (set offsets used end) j 0 ≡ offsetOf (stringAt b (getD (set firsts used row) j 0)) (strings b row ++ (stringAt b row ∷ []))
     starts-new j h =
@@ -236,9 +283,9 @@ module _ (b : Bytes) (firsts offsets order : List ℕ) (used end row : ℕ) (n :
         rw (q, getD-set-same offsets used end 0 (omega (arith, used-room, n .lent .second)), getD-set-same firsts used row 0 used-room)
         (n .uses .bytes ∙ sym (offset-last (stringAt b row) (strings b row) not-stored)))
 
-    pub noted-new : (l : ℕ) → l ≡ stringLength b row → Inserted order new used p
-        → Uses b (row + 1) (set firsts used row) (set offsets used end) new (used + 1) (end + l) × (end ≡ offsetOf (stringAt b row) (strings b (row + 1)))
-    noted-new l el i =
+    pub noted-new : (l : ℕ) → l ≡ stringLength b row
+        → Uses b (row + 1) (set firsts used row) (set offsets used end) (used + 1) (end + l) × (end ≡ offsetOf (stringAt b row) (strings b (row + 1)))
+    noted-new l el =
         let q = strings-new b row (n .kept) not-stored in
         let len : length (stringAt b row) ≡ l = length-string b row (n .lent .room .tested .inside row (n .row) (n .kept)) ∙ sym el in (
           record {
@@ -249,10 +296,42 @@ module _ (b : Bytes) (firsts offsets order : List ℕ) (used end row : ℕ) (n :
             room = rw length-set (omega (arith, used-room));
             bytes = rw (q, concat-append, length-append, append-nil, len) (ap (λ (x : ℕ). x + l) (n .uses .bytes));
             starts = rw q starts-new;
-            ordered = ordered-more b firsts order new used row p used-room (n .uses .ordered) w i;
           },
           n .uses .bytes ∙ sym (rw q (offset-last (stringAt b row) (strings b row) not-stored)),
         )
+
+  -- in order: a place in the order is given
+  pub placed-absent : (p : ℕ) → Ordered b firsts order used → Between b firsts order used (stringAt b row) p p → (j : ℕ) → j < used → stringAt b (getD firsts j 0) ≡ stringAt b row → ⊥
+  placed-absent p o w = between-absent b firsts order used (stringAt b row) o p p w refl
+
+  pub placed-ordered : (new : List ℕ) (p : ℕ) → Ordered b firsts order used → Between b firsts order used (stringAt b row) p p → Inserted order new used p
+      → Ordered b (set firsts used row) new (used + 1)
+  placed-ordered new p o w i =
+      ordered-more b firsts (set firsts used row) order new used row p (λ j h. getD-set-other firsts used j row 0 (λ e. omega arith)) (getD-set-same firsts used row 0 used-room) o w i
+
+  -- linked: a new first use is the last of its bucket
+  pub used-found : (heads : List ℕ) (bucket j : ℕ) → Linked b firsts order heads used → bucket < length heads → j < getD heads bucket 0 → j < used
+  used-found heads bucket j l h t = omega (arith, l .last bucket h .within)
+
+  pub arranged-new : (heads : List ℕ) (bucket : ℕ) → Buckets heads → Linked b firsts order heads used → bucket < length heads → bucket ≡ bucketOf (stringAt b row) (length heads)
+      → ((j : ℕ) → j < used → stringAt b (getD firsts j 0) ≡ stringAt b row → ⊥)
+      → Arranged b (set firsts used row) (set order used (getD heads bucket 0)) (set heads bucket (used + 1)) (used + 1) false
+  arranged-new heads bucket c l h e a =
+      record {
+        buckets = buckets-same heads (set heads bucket (used + 1)) c (length-set heads bucket (used + 1));
+        ordered = λ q. true-false (sym q);
+        linked = λ q. linked-more b firsts order heads used row bucket l used-room (omega (arith, used-room, n .lent .third)) h e a;
+      }
+
+  pub notable-order : (new : List ℕ) → length new ≡ length order → Notable b row firsts offsets new used end
+  notable-order new e =
+      record {
+        lent = record { room = n .lent .room; second = n .lent .second; third = e ∙ n .lent .third };
+        row = n .row;
+        kept = n .kept;
+        uses = n .uses;
+        small = n .small;
+      }
 
 -- later rows add strings behind
 pub record Begins (xs ys : List Bytes) : Type 0 where
@@ -287,25 +366,41 @@ module _ (b : Bytes) where
       rw (g .joined, concat-append, length-append) (omega arith)
 
   -- the pass that adds up the bytes: its start, a row that is not kept, its stop, its end
-  pub uses-start : (firsts offsets order : List ℕ) → Uses b 0 firsts offsets order 0 0
+  pub uses-start : (firsts offsets : List ℕ) → Uses b 0 firsts offsets 0 0
   unfolding firstRows strings entries
-  uses-start firsts offsets order =
+  uses-start firsts offsets =
       record {
         rows = refl;
         room = omega arith;
         bytes = refl;
         starts = λ j h. absurd (omega arith);
-        ordered = record { number = λ k h. absurd (omega arith); every = λ j h. absurd (omega arith); ascending = λ k l h t. absurd (omega arith) };
       }
 
-  pub uses-skip : (firsts offsets order : List ℕ) (used end i : ℕ) → keptAt b i ≡ false → Uses b i firsts offsets order used end → Uses b (i + 1) firsts offsets order used end
-  uses-skip firsts offsets order used end i k u =
+  pub arranged-start : (firsts links heads : List ℕ) → Cleared heads → Arranged b firsts links heads 0 false
+  arranged-start firsts links heads c =
+      record {
+        buckets = c .buckets;
+        ordered = λ e. true-false (sym e);
+        linked = λ e.
+            record {
+              last = λ h l.
+                  record {
+                    within = omega (arith, c .zero h l);
+                    keyed = λ n q. absurd (omega (arith, c .zero h l));
+                    none = λ j t. absurd (omega arith);
+                  };
+              before = λ u h. absurd (omega arith);
+              apart = record { differ = λ j k h t. absurd (omega arith) };
+            };
+      }
+
+  pub uses-skip : (firsts offsets : List ℕ) (used end i : ℕ) → keptAt b i ≡ false → Uses b i firsts offsets used end → Uses b (i + 1) firsts offsets used end
+  uses-skip firsts offsets used end i k u =
       record {
         rows = u .rows ∙ sym (firsts-skip b i k);
         room = u .room;
         bytes = u .bytes ∙ ap (λ xs. length (concat xs)) (sym (strings-skip b i k));
         starts = rw (strings-skip b i k) (u .starts);
-        ordered = u .ordered;
       }
 
   pub bytes-over : (n e : ℕ) → n ≤ word16 b 2 → e ≡ length (concat (strings b n)) → 65535 < e → refuse 5 ≡ distinctBytes b

@@ -1,6 +1,6 @@
 -- The name table by row numbers, as the code goes through it. proofs/ ties each definition to `cutName`.
 use mathlib.Core.Path.{_≡_}
-use mathlib.Core.Bool.{Bool, true}
+use mathlib.Core.Bool.{Bool, true, false}
 use mathlib.Core.List.{List, [], _∷_, _++_, map}
 use Prim.Native.Nat.{ℕ, zero, suc, _+_, _*_, _≤_, _<_}
 use lib.Dec.{leb}
@@ -8,14 +8,21 @@ use lib.ListN.{length, take, drop, getD}
 use Rattle.model.specs.Res.{Res, refuse, ok, pick, both, need, each, _>>_}
 use Rattle.model.specs.Bytes.{Bytes, word16, be16, put, part, concat}
 use Rattle.model.specs.Name.{NameEntry, nameRows, keptRows, nameEntry, isKept, stored?, store, offsetOf, newRow, newName}
+use Rattle.name.specs.Hashed.{bucketOf, Latest}
 use Rattle.name.specs.declared.Found.{Found}
 use Rattle.name.specs.declared.Found.the-variants.{At, Nowhere}
+use Rattle.name.specs.declared.Link.{Link}
+use Rattle.name.specs.declared.Link.the-variants.{Same, New}
 use Rattle.name.specs.declared.Counted.{Counted}
 use Rattle.name.specs.declared.Counted.the-variants.{Records, No}
 
 abbrev pub countedOf : Counted → Res ℕ
 countedOf (Records n) = ok n
 countedOf (No k) = refuse k
+
+abbrev pub placeOf : Found → ℕ
+placeOf (At j) = j
+placeOf (Nowhere p) = p
 
 -- row i, and where its string stands in the table
 abbrev pub rowAt : Bytes → ℕ → Bytes
@@ -75,12 +82,6 @@ newTable b = do
   need 5 (leb (length (entries b (word16 b 2))) 5460)
   ok (newName (entries b (word16 b 2)))
 
--- eight bytes as a number, the last the highest
-unfoldable pub eightAt : Bytes → ℕ → ℕ
-eightAt b i =
-    getD b i 0 + 256 * (getD b (i + 1) 0 + 256 * (getD b (i + 2) 0 + 256 * (getD b (i + 3) 0
-    + 256 * (getD b (i + 4) 0 + 256 * (getD b (i + 5) 0 + 256 * (getD b (i + 6) 0 + 256 * getD b (i + 7) 0))))))
-
 -- the order of strings: by the length, then by the first byte in which they differ
 unfoldable pub key : Bytes → ℕ → ℕ
 key x zero = length x
@@ -106,6 +107,34 @@ pub record Ordered (b : Bytes) (firsts order : List ℕ) (used : ℕ) : Type 0 w
   pub every : (j : ℕ) → j < used → Standing order used j
   pub ascending : (k l : ℕ) → k < l → l < used → Before (orderedAt b firsts order k) (orderedAt b firsts order l)
 
+-- the bucket of first use j
+unfoldable pub keyAt : Bytes → List ℕ → ℕ → ℕ → ℕ
+keyAt b firsts buckets j = bucketOf (stringAt b (getD firsts j 0)) buckets
+
+pub record Buckets (heads : List ℕ) : Type 0 where
+  pub some : 0 < length heads
+  pub few : length heads ≤ 4096
+
+pub record Cleared (heads : List ℕ) : Type 0 where
+  pub buckets : Buckets heads
+  pub zero : (h : ℕ) → h < length heads → getD heads h 0 ≡ 0
+
+-- no two of the `used` first uses have one string
+pub record Apart (b : Bytes) (firsts : List ℕ) (used : ℕ) : Type 0 where
+  pub differ : (j k : ℕ) → j < k → k < used → stringAt b (getD firsts j 0) ≡ stringAt b (getD firsts k 0) → ⊥
+
+-- `heads` has the last first use of each bucket, `links` the one before it in its bucket, each plus one
+pub record Linked (b : Bytes) (firsts links heads : List ℕ) (used : ℕ) : Type 0 where
+  pub last : (h : ℕ) → h < length heads → Latest (keyAt b firsts (length heads)) used h (getD heads h 0)
+  pub before : (u : ℕ) → u < used → Latest (keyAt b firsts (length heads)) u (keyAt b firsts (length heads) u) (getD links u 0)
+  pub apart : Apart b firsts used
+
+-- the first uses are in order, or linked
+pub record Arranged (b : Bytes) (firsts links heads : List ℕ) (used : ℕ) (sorted : Bool) : Type 0 where
+  pub buckets : Buckets heads
+  pub ordered : sorted ≡ true → Ordered b firsts links used
+  pub linked : sorted ≡ false → Linked b firsts links heads used
+
 -- what stands below place `low` comes before s, what stands from place `high` on behind it
 pub record Between (b : Bytes) (firsts order : List ℕ) (used : ℕ) (s : Bytes) (low high : ℕ) : Type 0 where
   pub meet : low ≤ high
@@ -124,6 +153,11 @@ pub record Alike (b : Bytes) (at start size k : ℕ) : Type 0 where
   pub within : k ≤ size
   pub same : (i : ℕ) → i < k → getD b (at + i) 0 ≡ getD b (start + i) 0
 
+-- whether all of them are
+pub record Compared (b : Bytes) (at start size : ℕ) (r : Bool) : Type 0 where
+  pub equal : r ≡ true → Alike b at start size size
+  pub differ : r ≡ false → Alike b at start size size → ⊥
+
 -- row i and its string lie in the table
 pub record Inside (b : Bytes) (i : ℕ) : Type 0 where
   pub row : 6 + 12 * i + 12 ≤ length b
@@ -141,6 +175,29 @@ pub record Sought (b : Bytes) (firsts order : List ℕ) (used i : ℕ) (f : Foun
   pub at : (j : ℕ) → f ≡ At j → (j < used) × (stringAt b (getD firsts j 0) ≡ stringAt b i)
   pub nowhere : (p : ℕ) → f ≡ Nowhere p → Between b firsts order used (stringAt b i) p p
 
+-- the same by the links of the string's bucket
+pub record Walkable (b : Bytes) (firsts links heads : List ℕ) (bucket i : ℕ) : Type 0 where
+  pub used : ℕ
+  pub sought : Inside b i
+  pub among : (j : ℕ) → j < used → Inside b (getD firsts j 0)
+  pub rows : used ≤ length firsts
+  pub places : used ≤ length links
+  pub linked : Linked b firsts links heads used
+  pub within : bucket < length heads
+  pub its : bucket ≡ bucketOf (stringAt b i) (length heads)
+
+pub record Walked (b : Bytes) (firsts links heads : List ℕ) (bucket i : ℕ) (f : Link) : Type 0 where
+  pub same : (j : ℕ) → f ≡ Same j → (j < getD heads bucket 0) × (stringAt b (getD firsts j 0) ≡ stringAt b i)
+  pub new : f ≡ New → (used : ℕ) → Linked b firsts links heads used → (j : ℕ) → j < used → stringAt b (getD firsts j 0) ≡ stringAt b i → ⊥
+
+-- the first uses can be put in order
+pub record Sortable (b : Bytes) (firsts order : List ℕ) (used : ℕ) : Type 0 where
+  pub among : (j : ℕ) → j < used → Inside b (getD firsts j 0)
+  pub rows : used ≤ length firsts
+  pub places : used ≤ length order
+  pub few : used ≤ 65535
+  pub apart : Apart b firsts used
+
 -- what the tests of 3 and 4 made sure of
 pub record Tested (b : Bytes) : Type 0 where
   pub rows : 6 + 12 * word16 b 2 ≤ length b
@@ -148,12 +205,11 @@ pub record Tested (b : Bytes) : Type 0 where
   pub inside : (i : ℕ) → i < word16 b 2 → keptAt b i ≡ true → Inside b i
 
 -- after n rows: `firsts` starts with the rows of the `used` first uses, `offsets` with where their strings start, which fill `end` bytes
-pub record Uses (b : Bytes) (n : ℕ) (firsts offsets order : List ℕ) (used end : ℕ) : Type 0 where
+pub record Uses (b : Bytes) (n : ℕ) (firsts offsets : List ℕ) (used end : ℕ) : Type 0 where
   pub rows : take used firsts ≡ firstRows b n
   pub room : used ≤ length firsts
   pub bytes : end ≡ length (concat (strings b n))
   pub starts : (j : ℕ) → j < used → getD offsets j 0 ≡ offsetOf (stringAt b (getD firsts j 0)) (strings b n)
-  pub ordered : Ordered b firsts order used
 
 -- every kept row can be noted in so many places, or in these arrays
 pub record Roomy (b : Bytes) (places : ℕ) : Type 0 where
@@ -171,12 +227,13 @@ pub record Notable (b : Bytes) (i : ℕ) (firsts offsets order : List ℕ) (used
   pub lent : Lent b firsts offsets order
   pub row : i < word16 b 2
   pub kept : keptAt b i ≡ true
-  pub uses : Uses b i firsts offsets order used end
+  pub uses : Uses b i firsts offsets used end
   pub small : end ≤ 65535
 
 -- the table can be written, with these arrays to note first uses and so many bytes of output
-pub record Writable (b : Bytes) (firsts offsets order : List ℕ) (size : ℕ) : Type 0 where
-  pub lent : Lent b firsts offsets order
+pub record Writable (b : Bytes) (firsts offsets links heads : List ℕ) (size : ℕ) : Type 0 where
+  pub lent : Lent b firsts offsets links
+  pub cleared : Cleared heads
   pub small : length (concat (strings b (word16 b 2))) ≤ 65535
   pub fits : 6 + 12 * length (entries b (word16 b 2)) + length (concat (strings b (word16 b 2))) ≤ size
 

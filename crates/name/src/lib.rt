@@ -1,9 +1,12 @@
 // name: the kept records with new offsets, their strings stored once each, at the first use (document 01, step 7: refusals 3, 4, 5).
 // measure tests everything and says how long the new table is; write writes it into its own part of the output.
-// Both note the first uses in arrays of their own: rows and new offsets in order of use, and their numbers in the order of their strings,
-// so that a string is found by halving, whatever the font.
+// Both note the first uses in arrays of their own: rows and new offsets in order of use, and links between those whose strings have one
+// bucket (hashed.rt), so that a string is compared with few others. A font made so that many share a bucket loses only that: after a
+// dozen links in vain the numbers of the first uses are put in the order of their strings, which are then found by halving.
+mod hashed;
+
 ghost use mathlib.Core.Path.{_≡_};
-ghost use mathlib.Core.Bool.{true};
+ghost use mathlib.Core.Bool.{true, false};
 ghost use mathlib.Core.List.{[], map};
 ghost use Prim.Native.Nat.{ℕ, _+_, _*_, _≤_, _<_};
 ghost use lib.Dec.{leb, eqb};
@@ -12,7 +15,8 @@ ghost use Rattle.model.specs.Res.{both, either, mapRes, isOk, valueOf};
 ghost use Rattle.model.specs.Bytes.{word16, put, over, concat};
 ghost use Rattle.model.specs.Name.{offsetOf, nameEntries, newName, cutName};
 ghost use Rattle.answer.specs.Answers.{sizeOf};
-ghost use Rattle.name.specs.Rows.{countedOf, keptAt, insideAt, stringStart, stringLength, stringAt, tested, entries, strings, eightAt, distinctBytes, newRecord, newTable, Inside, Alike, Searchable, Sought, Inserted, Tested, Uses, Roomy, Lent, Notable, Writable, Recorded};
+ghost use Rattle.name.specs.Rows.{countedOf, placeOf, keptAt, insideAt, stringStart, stringLength, stringAt, tested, entries, strings, distinctBytes, newRecord, newTable, Inside, Alike, Compared, Cleared, Ordered, Arranged, Searchable, Sought, Walkable, Walked, Sortable, Inserted, Tested, Uses, Roomy, Lent, Notable, Writable, Recorded};
+ghost use Rattle.name.specs.Hashed.{eightAt};
 
 // How many records are kept, or the refusal.
 enum Counted {
@@ -26,11 +30,19 @@ enum Found {
     Nowhere(usize),
 }
 
-// One more string was noted: the first uses and their bytes so far, and the string's offset.
+// The number of the first use that has an equal string, that there is none, or that the links were too many to tell.
+enum Link {
+    Same(usize),
+    New,
+    Lost,
+}
+
+// One more string was noted: the first uses and their bytes so far, the string's offset, and whether the first uses are in order now.
 struct Noted {
     used: usize,
     end: usize,
     offset: usize,
+    sorted: bool,
 }
 
 // The records are written: how many, and of how many first uses the rows are noted.
@@ -65,17 +77,28 @@ pub fn write(name: &[u8], out: &mut [u8])
         write::copy(name, out, 0);
         return;
     }
-    if read::u16_at(name, 2) <= 256 {
+    let count = read::u16_at(name, 2);
+    if count <= 64 {
+        let mut firsts = [0u16; 64];
+        let mut offsets = [0u16; 64];
+        let mut links = [0u16; 64];
+        let mut heads = [0u16; 64];
+        write_kept(name, out, &mut firsts, &mut offsets, &mut links, &mut heads);
+        return;
+    }
+    if count <= 256 {
         let mut firsts = [0u16; 256];
         let mut offsets = [0u16; 256];
-        let mut order = [0u16; 256];
-        write_kept(name, out, &mut firsts, &mut offsets, &mut order);
+        let mut links = [0u16; 256];
+        let mut heads = [0u16; 256];
+        write_kept(name, out, &mut firsts, &mut offsets, &mut links, &mut heads);
         return;
     }
     let mut firsts = [0u16; 5460];
     let mut offsets = [0u16; 5460];
-    let mut order = [0u16; 5460];
-    write_kept(name, out, &mut firsts, &mut offsets, &mut order);
+    let mut links = [0u16; 5460];
+    let mut heads = [0u16; 4096];
+    write_kept(name, out, &mut firsts, &mut offsets, &mut links, &mut heads);
 }
 
 // "header, records, storage start must be there (3)", then every range (4).
@@ -134,32 +157,50 @@ fn distinct_bytes(name: &[u8]) -> answer::Size
     requires { ⌜ Roomy (now name) 5460 ⌝ }
     ensures { λ r. ⌜ sizeOf r ≡ distinctBytes (now (name .entry)) ⌝ }
 {
-    if read::u16_at(name, 2) <= 256 {
+    let count = read::u16_at(name, 2);
+    if count <= 64 {
+        let mut firsts = [0u16; 64];
+        let mut offsets = [0u16; 64];
+        let mut links = [0u16; 64];
+        let mut heads = [0u16; 64];
+        return distinct(name, &mut firsts, &mut offsets, &mut links, &mut heads);
+    }
+    if count <= 256 {
         let mut firsts = [0u16; 256];
         let mut offsets = [0u16; 256];
-        let mut order = [0u16; 256];
-        return distinct(name, &mut firsts, &mut offsets, &mut order);
+        let mut links = [0u16; 256];
+        let mut heads = [0u16; 256];
+        return distinct(name, &mut firsts, &mut offsets, &mut links, &mut heads);
     }
     let mut firsts = [0u16; 5460];
     let mut offsets = [0u16; 5460];
-    let mut order = [0u16; 5460];
-    distinct(name, &mut firsts, &mut offsets, &mut order)
+    let mut links = [0u16; 5460];
+    let mut heads = [0u16; 4096];
+    distinct(name, &mut firsts, &mut offsets, &mut links, &mut heads)
 }
 
 // The bytes of all distinct strings: 5 as soon as they pass 65,535.
-fn distinct(name: &[u8], firsts: &mut [u16], offsets: &mut [u16], order: &mut [u16]) -> answer::Size
-    requires { ⌜ Lent (now name) (now firsts) (now offsets) (now order) ⌝ }
+fn distinct(
+    name: &[u8],
+    firsts: &mut [u16],
+    offsets: &mut [u16],
+    links: &mut [u16],
+    heads: &mut [u16],
+) -> answer::Size
+    requires { ⌜ Lent (now name) (now firsts) (now offsets) (now links) × Cleared (now heads) ⌝ }
     ensures { λ r. ⌜ sizeOf r ≡ distinctBytes (now (name .entry)) ⌝ }
 {
     let count = read::u16_at(name, 2) as usize;
     let mut used = 0;
     let mut end = 0;
+    let mut sorted = false;
     let mut i = 0;
     while i < count {
         if kept(name, i) {
-            let noted = note(name, firsts, offsets, order, used, end, i);
+            let noted = note(name, firsts, offsets, links, heads, used, end, i, sorted);
             used = noted.used;
             end = noted.end;
+            sorted = noted.sorted;
             if 65535 < end {
                 return answer::Size::No(5);
             }
@@ -169,8 +210,54 @@ fn distinct(name: &[u8], firsts: &mut [u16], offsets: &mut [u16], order: &mut [u
     answer::Size::Bytes(end)
 }
 
-// A kept row's string: at an earlier one's offset, or a first use, behind all others.
+// A kept row's string: at an earlier one's offset, or a first use, behind all others and first in its bucket.
 fn note(
+    name: &[u8],
+    firsts: &mut [u16],
+    offsets: &mut [u16],
+    links: &mut [u16],
+    heads: &mut [u16],
+    used: usize,
+    end: usize,
+    row: usize,
+    sorted: bool,
+) -> Noted
+    requires { ⌜ Notable (now name) row (now firsts) (now offsets) (now links) used end × Arranged (now name) (now firsts) (now links) (now heads) used sorted ⌝ }
+    ensures { λ r. ⌜ Uses (now (name .entry)) (row + 1) (now (firsts .exit)) (now (offsets .exit)) (r .used) (r .end) × Arranged (now (name .entry)) (now (firsts .exit)) (now (links .exit)) (now (heads .exit)) (r .used) (r .sorted) × (r .offset ≡ offsetOf (stringAt (now (name .entry)) row) (strings (now (name .entry)) (row + 1))) ⌝ }
+{
+    if sorted {
+        return note_sorted(name, firsts, offsets, links, used, end, row);
+    }
+    let bucket = hashed::bucket(string_at(name, row), heads.len());
+    let link = find_linked(name, &firsts[..], &links[..], &heads[..], bucket, row);
+    match link {
+        Link::Same(first) => Noted {
+            used: used,
+            end: end,
+            offset: offsets[first] as usize,
+            sorted: false,
+        },
+        Link::New => {
+            firsts[used] = row as u16;
+            offsets[used] = end as u16;
+            links[used] = heads[bucket];
+            heads[bucket] = (used + 1) as u16;
+            Noted {
+                used: used + 1,
+                end: end + length_at(name, row),
+                offset: end,
+                sorted: false,
+            }
+        }
+        Link::Lost => {
+            sort(name, &firsts[..], links, used);
+            note_sorted(name, firsts, offsets, links, used, end, row)
+        }
+    }
+}
+
+// The same where the first uses stand in the order of their strings.
+fn note_sorted(
     name: &[u8],
     firsts: &mut [u16],
     offsets: &mut [u16],
@@ -179,8 +266,8 @@ fn note(
     end: usize,
     row: usize,
 ) -> Noted
-    requires { ⌜ Notable (now name) row (now firsts) (now offsets) (now order) used end ⌝ }
-    ensures { λ r. ⌜ Uses (now (name .entry)) (row + 1) (now (firsts .exit)) (now (offsets .exit)) (now (order .exit)) (r .used) (r .end) × (r .offset ≡ offsetOf (stringAt (now (name .entry)) row) (strings (now (name .entry)) (row + 1))) ⌝ }
+    requires { ⌜ Notable (now name) row (now firsts) (now offsets) (now order) used end × Ordered (now name) (now firsts) (now order) used ⌝ }
+    ensures { λ r. ⌜ Uses (now (name .entry)) (row + 1) (now (firsts .exit)) (now (offsets .exit)) (r .used) (r .end) × Ordered (now (name .entry)) (now (firsts .exit)) (now (order .exit)) (r .used) × (r .sorted ≡ true) × (r .offset ≡ offsetOf (stringAt (now (name .entry)) row) (strings (now (name .entry)) (row + 1))) ⌝ }
 {
     let found = find_earlier(name, &firsts[..], &order[..], used, row);
     match found {
@@ -188,6 +275,7 @@ fn note(
             used: used,
             end: end,
             offset: offsets[first] as usize,
+            sorted: true,
         },
         Found::Nowhere(place) => {
             firsts[used] = row as u16;
@@ -197,8 +285,111 @@ fn note(
                 used: used + 1,
                 end: end + length_at(name, row),
                 offset: end,
+                sorted: true,
             }
         }
+    }
+}
+
+// The first use whose string is that of a row, among those of its bucket, the last first. Strings that share a bucket by chance are
+// few; a dozen means a font made to waste time.
+fn find_linked(
+    name: &[u8],
+    firsts: &[u16],
+    links: &[u16],
+    heads: &[u16],
+    bucket: usize,
+    row: usize,
+) -> Link
+    requires { ⌜ Walkable (now name) (now firsts) (now links) (now heads) bucket row ⌝ }
+    ensures { λ r. ⌜ Walked (now (name .entry)) (now (firsts .entry)) (now (links .entry)) (now (heads .entry)) bucket row r ⌝ }
+{
+    let mut next = heads[bucket] as usize;
+    let mut steps = 0usize;
+    while 0 < next {
+        if steps == 12 {
+            return Link::Lost;
+        }
+        let number = next - 1;
+        if equal(name, firsts[number] as usize, row) {
+            return Link::Same(number);
+        }
+        next = links[number] as usize;
+        steps += 1;
+    }
+    Link::New
+}
+
+// Whether two rows have one string.
+fn equal(name: &[u8], first: usize, row: usize) -> bool
+    requires { ⌜ Inside (now name) first × Inside (now name) row ⌝ }
+    ensures { λ r. ⌜ (r ≡ true → stringAt (now (name .entry)) first ≡ stringAt (now (name .entry)) row) × (r ≡ false → stringAt (now (name .entry)) first ≡ stringAt (now (name .entry)) row → ⊥) ⌝ }
+{
+    let size = length_at(name, row);
+    if length_at(name, first) != size {
+        return false;
+    }
+    same(name, start_at(name, first), start_at(name, row), size)
+}
+
+// Whether the bytes at two places are equal: word by word, and the last word again, over bytes that were compared.
+fn same(name: &[u8], at: usize, start: usize, size: usize) -> bool
+    requires { ⌜ (at + size ≤ length (now name)) × (start + size ≤ length (now name)) ⌝ }
+    ensures { λ r. ⌜ Compared (now (name .entry)) at start size r ⌝ }
+{
+    if at == start {
+        return true;
+    }
+    if size < 8 {
+        return same_short(name, at, start, size);
+    }
+    let mut k = alike_blocks(name, at, start, size);
+    while k + 8 <= size {
+        if eight_at(name, at + k) != eight_at(name, start + k) {
+            return false;
+        }
+        k += 8;
+    }
+    let last = size - 8;
+    if eight_at(name, at + last) != eight_at(name, start + last) {
+        return false;
+    }
+    true
+}
+
+fn same_short(name: &[u8], at: usize, start: usize, size: usize) -> bool
+    requires { ⌜ (at + size ≤ length (now name)) × (start + size ≤ length (now name)) ⌝ }
+    ensures { λ r. ⌜ Compared (now (name .entry)) at start size r ⌝ }
+{
+    let mut k = 0;
+    while k < size {
+        if name[at + k] != name[start + k] {
+            return false;
+        }
+        k += 1;
+    }
+    true
+}
+
+// The numbers of the first uses in the order of their strings, one more at a time.
+fn sort(name: &[u8], firsts: &[u16], order: &mut [u16], used: usize)
+    requires { ⌜ Sortable (now name) (now firsts) (now order) used ⌝ }
+    ensures { λ _. ⌜ Ordered (now (name .entry)) (now (firsts .entry)) (now (order .exit)) used ⌝ }
+{
+    let mut k = 0;
+    while k < used {
+        let found = find_earlier(name, firsts, &order[..], k, firsts[k] as usize);
+        insert(order, k, place(found));
+        k += 1;
+    }
+}
+
+fn place(found: Found) -> usize
+    ensures { λ r. ⌜ r ≡ placeOf found ⌝ }
+{
+    match found {
+        Found::At(number) => number,
+        Found::Nowhere(place) => place,
     }
 }
 
@@ -330,12 +521,13 @@ fn write_kept(
     out: &mut [u8],
     firsts: &mut [u16],
     offsets: &mut [u16],
-    order: &mut [u16],
+    links: &mut [u16],
+    heads: &mut [u16],
 )
-    requires { ⌜ Writable (now name) (now firsts) (now offsets) (now order) (length (now out)) ⌝ }
+    requires { ⌜ Writable (now name) (now firsts) (now offsets) (now links) (now heads) (length (now out)) ⌝ }
     ensures { λ _. ⌜ now (out .exit) ≡ over (newName (entries (now (name .entry)) (word16 (now (name .entry)) 2))) (now (out .entry)) ⌝ }
 {
-    let written = write_records(name, out, firsts, offsets, order);
+    let written = write_records(name, out, firsts, offsets, links, heads);
     let used = written.used;
     let start = 6 + 12 * written.kept;
     write_strings(name, &firsts[..used], out, start);
@@ -350,23 +542,26 @@ fn write_records(
     out: &mut [u8],
     firsts: &mut [u16],
     offsets: &mut [u16],
-    order: &mut [u16],
+    links: &mut [u16],
+    heads: &mut [u16],
 ) -> Written
-    requires { ⌜ Writable (now name) (now firsts) (now offsets) (now order) (length (now out)) ⌝ }
+    requires { ⌜ Writable (now name) (now firsts) (now offsets) (now links) (now heads) (length (now out)) ⌝ }
     ensures { λ r. ⌜ Recorded (now (name .entry)) (now (firsts .exit)) (now (out .exit)) (now (out .entry)) (r .kept) (r .used) ⌝ }
 {
     let count = read::u16_at(name, 2) as usize;
     let mut n = 0;
     let mut used = 0;
     let mut end = 0;
+    let mut sorted = false;
     let mut i = 0;
     while i < count {
         if kept(name, i) {
-            let noted = note(name, firsts, offsets, order, used, end, i);
+            let noted = note(name, firsts, offsets, links, heads, used, end, i, sorted);
             put_record(name, i, noted.offset, out, 6 + 12 * n);
             n += 1;
             used = noted.used;
             end = noted.end;
+            sorted = noted.sorted;
         }
         i += 1;
     }

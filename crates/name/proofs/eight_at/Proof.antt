@@ -1,6 +1,6 @@
 -- A sum of eight bytes, each below 256, fits 64 bits.
 use native.Mathlib.Omega.{arith}
-use Rattle.name.specs.Rows.{eightAt}
+use Rattle.name.specs.Hashed.{eightAt}
 use borrow.Author.Needs.{needs}
 use Rattle.name.proofs.eight_at.Statement.{statement}
 use Rattle.name.proofs.eight_at.Tie as tie

@@ -15,14 +15,14 @@ write-records-requires c κs = search needs
 
 mul-start : tie.Need-mul-start
 mul-start c =
-    let r = c .before .before .before .before .before .before .before .before .before .before .before .before .before .before .before .before .before .before .before in
-    let w = c .before .before .before .before .before .before .before .before .before .write-records in
+    let r = c .before .before .before .before .before .before .before .before .before .before .before .before .before .before .before .before .before .before .before .before .before .before .before in
+    let w = c .before .before .before .before .before .before .before .before .before .before .before .write-records in
     omega (arith, w .ensures .count, r .pre .lent .room .few)
 
 add-start : tie.Need-add-start
 add-start c =
-    let r = c .before .before .before .before .before .before .before .before .before .before .before .before .before .before .before .before .before .before .before in
-    let w = c .before .before .before .before .before .before .before .before .before .write-records in
+    let r = c .before .before .before .before .before .before .before .before .before .before .before .before .before .before .before .before .before .before .before .before .before .before .before in
+    let w = c .before .before .before .before .before .before .before .before .before .before .before .write-records in
     omega (arith, w .ensures .count, r .pre .lent .room .few)
 
 slice-reshare-prefix-write-strings : tie.Need-slice-reshare-prefix-write-strings
@@ -30,13 +30,13 @@ slice-reshare-prefix-write-strings c = search needs
 
 slice-aggregate-write-strings : tie.Need-slice-aggregate-write-strings
 slice-aggregate-write-strings c =
-    let w = c .before .before .before .before .before .before .before .before .before .before .write-records in
+    let w = c .before .before .before .before .before .before .before .before .before .before .before .before .write-records in
     sym (length-take-le (w .result .used) _ (w .ensures .room))
 
 write-strings-requires : tie.Need-write-strings-requires
 write-strings-requires c κs =
-    let r = c .before .before .before .before .before .before .before .before .before .before .before .before .before .before .before .before .before .before .before .before .before in
-    let w = c .before .before .before .before .before .before .before .before .before .before .before .write-records in
+    let r = c .before .before .before .before .before .before .before .before .before .before .before .before .before .before .before .before .before .before .before .before .before .before .before .before .before in
+    let w = c .before .before .before .before .before .before .before .before .before .before .before .before .before .write-records in
     let e = recorded-strings (r .args .name .now) _ _ (r .args .out .now) (w .result .kept) (w .result .used) (r .pre .lent .room .tested) (w .ensures) in
     (recorded-inside (r .args .name .now) _ _ (r .args .out .now) (w .result .kept) (w .result .used) (r .pre .lent .room .tested) (w .ensures), omega (arith, ap length e, w .ensures .count, r .pre .fits))
 
@@ -45,8 +45,8 @@ put-u16-requires c κs = search needs
 
 cast-put-u16 : tie.Need-cast-put-u16
 cast-put-u16 c =
-    let r = c .before .before .before .before .before .before .before .before .before .before .before .before .before .before .before .before .before .before .before .before .before .before .before .before .before .before .before .before .before .before in
-    let w = c .before .before .before .before .before .before .before .before .before .before .before .before .before .before .before .before .before .before .before .before .write-records in
+    let r = c .before .before .before .before .before .before .before .before .before .before .before .before .before .before .before .before .before .before .before .before .before .before .before .before .before .before .before .before .before .before .before .before .before .before in
+    let w = c .before .before .before .before .before .before .before .before .before .before .before .before .before .before .before .before .before .before .before .before .before .before .write-records in
     omega (arith, w .ensures .count, r .pre .lent .room .few)
 
 put-u16-requires-2 : tie.Need-put-u16-requires-2
@@ -54,14 +54,14 @@ put-u16-requires-2 c κs = search needs
 
 cast-put-u16-2 : tie.Need-cast-put-u16-2
 cast-put-u16-2 c =
-    let r = c .before .before .before .before .before .before .before .before .before .before .before .before .before .before .before .before .before .before .before .before .before .before .before .before .before .before .before .before .before .before .before .before .before .before in
-    let w = c .before .before .before .before .before .before .before .before .before .before .before .before .before .before .before .before .before .before .before .before .before .before .before .before .write-records in
+    let r = c .before .before .before .before .before .before .before .before .before .before .before .before .before .before .before .before .before .before .before .before .before .before .before .before .before .before .before .before .before .before .before .before .before .before .before .before .before .before in
+    let w = c .before .before .before .before .before .before .before .before .before .before .before .before .before .before .before .before .before .before .before .before .before .before .before .before .before .before .write-records in
     omega (arith, w .ensures .count, r .pre .lent .room .few)
 
 put-u16-requires-3 : tie.Need-put-u16-requires-3
 put-u16-requires-3 c κs =
-    let r = c .before .before .before .before .before .before .before .before .before .before .before .before .before .before .before .before .before .before .before .before .before .before .before .before .before .before .before .before .before .before .before .before .before .before in
-    omega (arith, r .pre .fits, c .before .before .before .before .before .before .before .before .before .before .before .before .before .before .before .before .before .before .before .before .before .before .before .out .given, c .before .before .before .before .before .before .before .before .before .before .before .out2 .given, c .before .before .before .before .before .before .before .out3 .given, c .before .before .out4 .given)
+    let r = c .before .before .before .before .before .before .before .before .before .before .before .before .before .before .before .before .before .before .before .before .before .before .before .before .before .before .before .before .before .before .before .before .before .before .before .before .before .before in
+    omega (arith, r .pre .fits, c .before .before .before .before .before .before .before .before .before .before .before .before .before .before .before .before .before .before .before .before .before .before .before .before .before .out .given, c .before .before .before .before .before .before .before .before .before .before .before .out2 .given, c .before .before .before .before .before .before .before .out3 .given, c .before .before .out4 .given)
 
 same-length : tie.Need-same-length
 same-length c = search needs
@@ -75,10 +75,13 @@ same-length-3 c = search needs
 same-length-4 : tie.Need-same-length-4
 same-length-4 c = search needs
 
+same-length-5 : tie.Need-same-length-5
+same-length-5 c = search needs
+
 returns : tie.Need-returns
 returns c =
-    let r = c .before .before .before .before .before .before .before .before .before .before .before .before .before .before .before .before .before .before .before .before .before .before .before .before .before .before .before .before .before .before .before .before .before .before .before .before .before in
-    let w = c .before .before .before .before .before .before .before .before .before .before .before .before .before .before .before .before .before .before .before .before .before .before .before .before .before .before .before .write-records in
+    let r = c .before .before .before .before .before .before .before .before .before .before .before .before .before .before .before .before .before .before .before .before .before .before .before .before .before .before .before .before .before .before .before .before .before .before .before .before .before .before .before .before .before in
+    let w = c .before .before .before .before .before .before .before .before .before .before .before .before .before .before .before .before .before .before .before .before .before .before .before .before .before .before .before .before .before .write-records in
     let s = c .before .before .before .before .before .before .before .before .before .before .before .before .before .before .before .write-strings in
     let n : ℕ = w .result .kept in
     let e = recorded-strings (r .args .name .now) _ _ (r .args .out .now) (w .result .kept) (w .result .used) (r .pre .lent .room .tested) (w .ensures) in
@@ -107,4 +110,5 @@ write-kept-spec =
     same-length-2
     same-length-3
     same-length-4
+    same-length-5
     returns)
