@@ -1,6 +1,5 @@
 -- The bucket of a string. Nothing is promised of it but that it is a function of the bytes, and that first uses are linked by it.
 use mathlib.Core.Path.{_≡_}
-use mathlib.Core.List.{List}
 use Prim.Native.Nat.{ℕ, zero, suc, _+_, _*_, _-_, _/_, _%_, _^_, _≤_, _<_}
 use lib.Dec.{leb, eqb}
 use lib.ListN.{length, getD}
@@ -28,7 +27,7 @@ lastWord s =
     (pick (eqb (length s) 0) 0 (getD s 0 0 * 65536 + getD s (length s / 2) 0 * 256 + getD s (length s - 1) 0)))
 
 unfoldable pub sampledOf : ℕ → ℕ → ℕ
-sampledOf size buckets = pick (leb 4096 buckets) size (pick (leb size 64) size 64)
+sampledOf size buckets = pick (leb 4096 buckets) size (pick (leb size 8) size 8)
 
 unfoldable pub sumOf : Bytes → ℕ → ℕ
 sumOf s buckets = (wordsOf s (sampledOf (length s) buckets / 8) + mixedOf (lastWord s) (length s)) % 2 ^ 64

@@ -1,4 +1,4 @@
-// The bucket of a string, from all its bytes: equal strings have one bucket, others by chance.
+// The bucket of a string, from its bytes: equal strings have one bucket, others by chance.
 ghost use mathlib.Core.Path.{_≡_};
 ghost use Prim.Native.Nat.{_/_, _<_, _≤_};
 ghost use lib.ListN.{length};
@@ -15,18 +15,18 @@ pub fn bucket(s: &[u8], buckets: usize) -> usize
     (folded % 0x1_0000_0000) as usize * buckets / 0x1_0000_0000
 }
 
-// How many bytes are looked at, beside the last eight: in a small table no more than 64, since a licence of thousands is longer than all
-// its other strings, and few that begin alike are enough to have first uses sorted.
+// How many bytes are looked at, beside the last eight: all in a large table. A small one has few strings, among them a licence of
+// thousands of bytes, and looks at the first eight; a font made so that this tells too little has its first uses sorted.
 fn sampled(size: usize, buckets: usize) -> usize
     ensures { λ r. ⌜ (r ≡ sampledOf size buckets) × (r ≤ size) ⌝ }
 {
     if 4096 <= buckets {
         return size;
     }
-    if size <= 64 {
+    if size <= 8 {
         return size;
     }
-    64
+    8
 }
 
 // The whole words of the first n bytes.

@@ -3,7 +3,6 @@ use mathlib.Core.Path.{refl, sym, ap, _∙_}
 use lib.ListN.{length}
 use Rattle.model.proofs.Res.{true-false}
 use Rattle.name.proofs.Order.{length-string, alike-none, alike-all, alike-strings}
-use native.Mathlib.Omega.{arith}
 use borrow.Author.Needs.{needs}
 use Rattle.name.proofs.equal.Statement.{statement}
 use Rattle.name.proofs.equal.Tie as tie

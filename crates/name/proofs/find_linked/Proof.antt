@@ -1,7 +1,5 @@
 -- What the links have passed has another string, and they pass every first use of the bucket.
-use mathlib.Core.Path.{_≡_}
-use Prim.Native.Nat.{ℕ, _+_, _-_, _≤_}
-use lib.ListN.{getD}
+use Prim.Native.Nat.{_-_, _≤_}
 use Rattle.name.proofs.Links.{Walking, walking-start, walking-number, walking-back, walking-next, walked-same, walked-new, walked-lost}
 use native.Mathlib.Omega.{arith}
 use borrow.Author.Needs.{needs}

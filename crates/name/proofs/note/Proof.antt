@@ -1,6 +1,6 @@
 -- (r .args .name .now) (r .args .firsts .now) (r .args .offsets .now) (r .args .links .now) (r .args .used) (r .args .end) (r .args .row) (r .pre .0) string that is found is stored already, at the offset that was noted; one that is not becomes the last of the first uses and of its bucket. Where the links are too many, the first uses are put in order.
-use mathlib.Core.Path.{_≡_, refl, ap, _∙_}
-use Prim.Native.Nat.{_+_, _*_, _<_}
+use mathlib.Core.Path.{refl, ap, _∙_}
+use Prim.Native.Nat.{_+_, _*_}
 use lib.ListN.{length, getD}
 use Rattle.model.specs.Bytes.{Bytes}
 use Rattle.name.specs.Hashed.{bucketOf}

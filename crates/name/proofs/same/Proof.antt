@@ -85,7 +85,7 @@ returns-5 : tie.Need-returns-5 Inv-loop μ-loop
 returns-5 c =
     let r = c .before .before .before .before .before .before .before .before .before in
     let l = c .before .before .before .before .loop in
-    compared-last (r .args .name .now) (r .args .at) (r .args .start) (r .args .size) (l .k) _ _ (l .inv) (c .before .before .before .loop-test .left) (c .before .before .before .before .before .before .if2 .left) (λ i. omega (arith, c .before .before .before .before .before .before .before .before .shared-slice-known .given i)) (c .before .before .eight-at3 .ensures) (c .before .eight-at4 .ensures) (c .if4 .left)
+    compared-last (r .args .name .now) (r .args .at) (r .args .start) (r .args .size) (l .k) _ _ (l .inv) (omega (arith, c .before .before .before .loop-test .left)) (c .before .before .before .before .before .before .if2 .left) (λ i. omega (arith, c .before .before .before .before .before .before .before .before .shared-slice-known .given i)) (c .before .before .eight-at3 .ensures) (c .before .eight-at4 .ensures) (c .if4 .left)
 
 pub same-spec : {M : Type 1} → statement M
 same-spec =

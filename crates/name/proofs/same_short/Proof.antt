@@ -32,7 +32,7 @@ shared-slice-read-if1-2 c = search needs
 returns : tie.Need-returns Inv-loop μ-loop
 returns c =
     let r = c .before .before .before .before .before in
-    compared-byte (r .args .name .now) (r .args .at) (r .args .start) (r .args .size) (c .before .before .before .before .loop .k) (c .before .before .before .loop-test .taken) (c .if1 .taken)
+    compared-byte (r .args .name .now) (r .args .at) (r .args .start) (r .args .size) (c .before .before .before .before .loop .k) (c .before .before .before .loop-test .taken) (λ e. omega (arith, c .if1 .taken, e))
 
 add-k : tie.Need-add-k Inv-loop μ-loop
 add-k c = search needs
@@ -43,7 +43,7 @@ loop-less c = search needs
 loop-again : tie.Need-loop-again Inv-loop μ-loop
 loop-again c =
     let r = c .before .before .before .before .before in
-    alike-next (r .args .name .now) (r .args .at) (r .args .start) (r .args .size) (c .before .before .before .before .loop .k) (c .before .before .before .before .loop .inv) (c .before .before .before .loop-test .taken) (c .if1 .left)
+    alike-next (r .args .name .now) (r .args .at) (r .args .start) (r .args .size) (c .before .before .before .before .loop .k) (c .before .before .before .before .loop .inv) (c .before .before .before .loop-test .taken) (omega (arith, c .if1 .left))
 
 returns-2 : tie.Need-returns-2 Inv-loop μ-loop
 returns-2 c =

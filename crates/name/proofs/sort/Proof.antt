@@ -1,7 +1,7 @@
 -- The first k numbers are in order; the next one's string differs from theirs, so that it has a place among them.
-use mathlib.Core.Path.{_≡_, refl, sym, _∙_}
-use Prim.Native.Nat.{ℕ, _+_, _-_, _≤_}
-use lib.ListN.{length, getD}
+use mathlib.Core.Path.{_≡_, refl}
+use Prim.Native.Nat.{_-_, _≤_}
+use lib.ListN.{length}
 use Rattle.name.specs.Rows.{Ordered}
 use Rattle.name.proofs.Order.{ordered-none, sort-searchable, sort-place, sort-next}
 use native.Mathlib.Omega.{arith}

@@ -3,7 +3,6 @@ use mathlib.Core.Path.{refl}
 use borrow.Author.Tests.{le-leb, lt-leb}
 use Rattle.name.specs.Hashed.{sampledOf}
 use native.Mathlib.Omega.{arith}
-use borrow.Author.Needs.{needs}
 use Rattle.name.proofs.hashed.sampled.Statement.{statement}
 use Rattle.name.proofs.hashed.sampled.Tie as tie
 

@@ -1,6 +1,6 @@
 -- After k bytes the sum is that of k / 8 words.
 use mathlib.Core.Path.{_≡_, refl, ap, _∙_}
-use Prim.Native.Nat.{ℕ, _+_, _-_, _/_, _%_, _≤_}
+use Prim.Native.Nat.{_-_, _/_, _%_, _≤_}
 use Rattle.name.specs.Hashed.{wordsOf}
 use Rattle.name.proofs.Links.{words-next}
 use native.Mathlib.Omega.{arith}
