@@ -99,6 +99,14 @@ pub fn names() -> Vec<Named> {
         named("name: a sum of 65,536", font(&[(1, 65_535)], b"abab")),
         named("name: a sum far over 65,535", font(&[(65_535, 65_535)], b"abab")),
     ];
+    // Strings that Pitavele puts into one bucket, since their first word counts as nothing there: up to
+    // 12 are tried one by one, from 14 on they are sorted. Each is named twice, in scattered order.
+    for count in [12, 13, 14, 15, 32, 100, 300, 2_700] {
+        let word = |i: usize| [[0xEB, 0x83, 0xB5, 0x80], ((i * 7_919 % count) as u32).to_be_bytes()].concat();
+        let storage: Vec<u8> = (0..count).flat_map(|i| [word(i), vec![b'x'; 8]].concat()).collect();
+        let records: Vec<_> = (0..count).chain((0..count).rev()).map(|i| (16, 16 * i)).collect();
+        cases.push(named(format!("name: {count} strings of one bucket"), font(&records, &storage)));
+    }
     // Which records are kept: one string each, so that the storage shows them too.
     for (platform, encoding) in [(0, 9), (1, 0), (2, 1), (3, 0), (3, 1), (3, 2), (3, 10), (3, 11), (4, 0)] {
         let mut table = name(&[(1, 0); 18], b"x");
