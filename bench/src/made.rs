@@ -51,6 +51,7 @@ pub fn crafted() -> Vec<Made> {
     cases.extend(names());
     cases.extend(composites());
     cases.extend(posts());
+    cases.extend(wide());
     cases
 }
 
@@ -147,4 +148,14 @@ fn posts() -> Vec<Made> {
     let build = Build::empty(1_000).with(b"post", post(&[65_535; 1_000], &names(n, 1)));
     cases.push(made(format!("post: 1,000 glyphs ask for the last of {n} names"), build, 1_000, all(1_000)));
     cases
+}
+
+/// Many glyphs and little to keep: the scratch must be zero behind the roster, whatever is kept.
+fn wide() -> Vec<Made> {
+    let n = 65_535;
+    let few = |ids: Vec<u16>| {
+        let what = format!("scratch: {n} glyphs without names, {} ids", ids.len());
+        made(what, Build::empty(n), n, ids)
+    };
+    vec![few(vec![]), few(spread(n, 5)), few(spread(n, 100))]
 }

@@ -1,5 +1,6 @@
 -- The whole: the requests, then all turns, are the walk; and that it is the model's walk of a font's tables.
 use mathlib.Core.Path.{_≡_, refl, sym, ap, _∙_, subst}
+use mathlib.Core.Bool.{false}
 use mathlib.Core.List.{List, [], _∷_, reverse}
 use Prim.Native.Nat.{ℕ, _+_, _*_, _≤_}
 use native.Mathlib.Omega.{arith}
@@ -18,10 +19,11 @@ use Rattle.model.proofs.Start.{thin}
 use Rattle.model.proofs.Yields.{yields-bind, yields-map, yields-weaken}
 use Rattle.model.proofs.Outlines.{Few, Parts, outline-yield, bytes-yield}
 use Rattle.model.proofs.Closure.{few-ids, widths-few}
-use Rattle.remapper.specs.Scratch.{started}
+use Rattle.remapper.specs.Scratch.{started, Sweepable}
 use Rattle.remapper.specs.State.{Walking, Rostered, Counts, Numbering}
 use Rattle.remapper.specs.declared.Count.the-variants as numbered
 use Rattle.remapper.proofs.Fills.{walking-started, past-started}
+use Rattle.remapper.proofs.Clears.{walking-sweepable}
 use Rattle.closure.specs.Closes.{partsIn, walkIn, Offsets, closedOf, totals, Closes}
 use Rattle.closure.specs.Turns.{Summed, Ends, Ran, asks, Numbered}
 use Rattle.closure.specs.declared.Closed.{Closed}
@@ -41,7 +43,7 @@ numbered-all n qs s₁ s₂ count v = go (asks n (0 ∷ []) qs) (v .counts)
     go (refuse j) c = absurd c
 
 -- a walk that ends, and alike by moving to the top; the sums are over its roster
-module _ (parts : ℕ → Res (List ℕ)) (lengths : ℕ → ℕ) (turns n : ℕ) (qs : List ℕ) (alike : Alike parts turns (begin n qs)) where
+module _ (parts : ℕ → Res (List ℕ)) (lengths : ℕ → ℕ) (turns n : ℕ) (qs : List ℕ) (alike : Alike parts turns (begin n qs)) (small : n ≤ 65536) where
   closes : (s s′ : List ℕ) (a : Closed) (v : Walk) → run parts turns (begin n qs) ≡ v → Ends lengths n s′ a v → drop (4 * n) s′ ≡ drop (4 * n) s
       → Closes lengths (walk turns n parts qs) n s s′ a
   unfolding walk
@@ -52,11 +54,11 @@ module _ (parts : ℕ → Res (List ℕ)) (lengths : ℕ → ℕ) (turns n : ℕ
 
       go : (a : Closed) (v : Walk) → Ends lengths n s′ a v → Closes lengths (ended v) n s s′ a
       go (Kept k even raw) (going r st) f = absurd f
-      go (Kept k even raw) (kept r) f = record { answer = total k even raw r (f .1) (f .2); scratch = λ r′ q. subst (Rostered n s′) (ok-inj q) (f .0 .rostered); past = p }
+      go (Kept k even raw) (kept r) f = record { answer = total k even raw r (f .1) (f .2); scratch = λ r′ q. subst (Rostered n s′) (ok-inj q) (f .0 .rostered); sweepable = λ r′ q. subst (λ (r : List ℕ). Sweepable n s′ (length r) false) (ok-inj q) (walking-sweepable n s′ r small (f .0)); past = p }
       go (Kept k even raw) (refused j) f = absurd f
       go (No k) (going r st) f = absurd f
       go (No k) (kept r) f = absurd f
-      go (No k) (refused j) f = record { answer = ap refuse f; scratch = λ r q. ok-refuse (sym q); past = p }
+      go (No k) (refused j) f = record { answer = ap refuse f; scratch = λ r q. ok-refuse (sym q); sweepable = λ r q. ok-refuse (sym q); past = p }
 
   pub closes-none : n ≡ 0 → (s : List ℕ) → Closes lengths (walk turns n parts qs) n s s (No 3)
   closes-none e s = closes s s (No 3) (refused 3) (ap (run parts turns) none ∙ run-done parts turns (refused 3) tt) refl refl

@@ -1,5 +1,7 @@
--- What the whole promises: the walk's answer, with the kept outlines' lengths added up, and in the scratch its roster and the new numbers.
+-- What the whole promises: the walk's answer, with the kept outlines' lengths added up, and in the scratch its roster and the new numbers, and nothing
+-- of other glyphs.
 use mathlib.Core.Path.{_≡_}
+use mathlib.Core.Bool.{false}
 use mathlib.Core.List.{List, map}
 use Prim.Native.Nat.{ℕ, _+_, _*_, _≤_, _<_}
 use lib.ListN.{length, drop}
@@ -9,6 +11,7 @@ use Rattle.model.specs.Glyf.{Width, short, entrySize, glyphBytes}
 use Rattle.model.specs.Outline.{outline, components}
 use Rattle.model.specs.Walk.{walk}
 use Rattle.glyf.specs.Pieces.{raisedTo}
+use Rattle.remapper.specs.Scratch.{Sweepable}
 use Rattle.remapper.specs.State.{Rostered}
 use Rattle.closure.specs.declared.Closed.{Closed}
 use Rattle.closure.specs.declared.Closed.the-variants.{Kept, No}
@@ -42,4 +45,5 @@ totals lengths r = (length r, evenLength lengths r, rawLength lengths r)
 pub record Closes (lengths : ℕ → ℕ) (walked : Res (List ℕ)) (n : ℕ) (s s′ : List ℕ) (a : Closed) : Type 0 where
   pub answer : closedOf a ≡ mapRes (totals lengths) walked
   pub scratch : (r : List ℕ) → walked ≡ ok r → Rostered n s′ r
+  pub sweepable : (r : List ℕ) → walked ≡ ok r → Sweepable n s′ (length r) false
   pub past : drop (4 * n) s′ ≡ drop (4 * n) s

@@ -8,7 +8,7 @@ use native.Mathlib.Omega.{arith}
 use lib.ListN.{length, getD, take}
 use lib.Seq.{take-take, getD-take}
 use Rattle.model.specs.Res.{Res, refuse, ok, each, mapRes, isOk, valueOf, _>>=_, _>>_}
-use Rattle.model.specs.Bytes.{Bytes, place}
+use Rattle.model.specs.Bytes.{Bytes, word32, place}
 use Rattle.model.specs.Font.{Tables}
 use Rattle.model.specs.Metrics.{Metric, metrics}
 use Rattle.model.specs.Name.{cutName}
@@ -25,7 +25,7 @@ use Rattle.post.specs.Post.{Indexed, Measured}
 use Rattle.plan.specs.declared.Source.{Source}
 use Rattle.plan.specs.declared.Plan.{Plan}
 use Rattle.plan.specs.Steps.{refusalOf, renewed, there?, bytesIn, lengthIn}
-use Rattle.plan.specs.Sources.{Opens, Walked, Kept, PostSized, Found, Planned, afterPost, afterName, afterMetrics}
+use Rattle.plan.specs.Sources.{fontOf, Opens, Walked, Kept, PostSized, Found, Planned, afterPost, afterName, afterMetrics}
 use Rattle.plan.proofs.Rostered as rostered
 
 -- an absent table's measure, and one that is there
@@ -43,10 +43,10 @@ module _ (font : Bytes) (t : Places) (k : ℕ) (f : Bytes → Res Bytes) where
       go (ok c) = refl
 
 -- the scratch
-pub kept-all : (n : ℕ) (scratch : List ℕ) → Kept n scratch scratch
-kept-all n scratch = record { same-length = refl; front = refl; back = refl }
+pub kept-all : (post : Option Bytes) (n : ℕ) (scratch : List ℕ) → Kept post n scratch scratch
+kept-all post n scratch = record { same-length = refl; front = refl; back = refl; same = λ _. refl }
 
-module _ (font : Bytes) (s : Source) (before after : List ℕ) (kept : ℕ) (o : Opens font s) (w : Walked font s before kept) (k : Kept (s .n) before after) where
+module _ (font : Bytes) (s : Source) (before after : List ℕ) (kept : ℕ) (o : Opens font s) (w : Walked font s before kept) (k : Kept ((fontOf font s) .post) (s .n) before after) where
   pub roster-stays : take kept after ≡ take kept before
   roster-stays =
       let h : kept ≤ 2 * s .n = omega (arith, rostered.fewer font s before kept o w) in
@@ -71,7 +71,7 @@ module _ (font : Bytes) (t : Places) (n kept : ℕ) (before : List ℕ) where
   post-absent e =
       record {
         size = absent-size font t 9 (λ b. cutPost b (take kept before)) e;
-        untouched = kept-all n before;
+        untouched = kept-all _ n before;
         index = λ _ b q. true-false (sym (ap there? (rw e at q)));
       }
 
@@ -80,13 +80,13 @@ module _ (font : Bytes) (t : Places) (n kept : ℕ) (before : List ℕ) where
   post-present b after r e q m =
       record {
         size = m .size ∙ ap (λ (b : Bytes). mapRes length (cutPost b (take kept before))) q ∙ present-size font t 9 (λ b. cutPost b (take kept before)) e;
-        untouched = record { same-length = m .same-length; front = m .front; back = m .back };
+        untouched = record { same-length = m .same-length; front = m .front; back = m .back; same = λ u. m .unnamed (λ v. (rw e at u) (ap (λ (x : Bytes). word32 x 0) (sym q) ∙ v)) };
         index = λ h c p. subst (λ (x : Bytes). Indexed x after n kept) (q ∙ ap bytesIn (rw e at p)) (m .index h);
       }
 
 -- a step refuses, or passes and leaves the rest
 module _ {A B : Type 0} (f : A → B) (m : Res A) (rest whole : Res CutFont) (is : whole ≡ (m >> rest)) (t : Tables) (n kept : ℕ) (before after : List ℕ) (p : Plan) where
-  pub planned-refused : (k : ℕ) → refuse k ≡ mapRes f m → (p .fits ≡ false) × (p .refusal ≡ k) → Kept n before after → Planned whole t n kept before after p
+  pub planned-refused : (k : ℕ) → refuse k ≡ mapRes f m → (p .fits ≡ false) × (p .refusal ≡ k) → Kept (t .post) n before after → Planned whole t n kept before after p
   planned-refused k e r u =
       record {
         fits = r .0 ∙ sym (ap isOk refused);

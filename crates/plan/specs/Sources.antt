@@ -1,12 +1,12 @@
 -- What the public call knows of its font on the way: opened, walked, measured.
 use mathlib.Core.Path.{_≡_}
 use mathlib.Core.Bool.{true}
-use mathlib.Core.Option.{some}
+use mathlib.Core.Option.{Option, none, some}
 use mathlib.Core.List.{List, []}
 use Prim.Native.Nat.{ℕ, _+_, _*_, _≤_, _<_}
 use lib.ListN.{length, getD, take, drop}
 use Rattle.model.specs.Res.{Res, ok, each, mapRes, isOk, valueOf, _>>_}
-use Rattle.model.specs.Bytes.{Bytes, place}
+use Rattle.model.specs.Bytes.{Bytes, word32, place}
 use Rattle.model.specs.Font.{Tables}
 use Rattle.model.specs.Glyf.{width, widthOf, size, newWidth}
 use Rattle.model.specs.Metrics.{metrics, newCount}
@@ -54,16 +54,22 @@ pub record Walked (font : Bytes) (s : Source) (scratch : List ℕ) (kept : ℕ) 
 abbrev pub OutlinesAdded : Tables → List ℕ → Sums → Type 0
 OutlinesAdded t r sums = Measured (valueOf [] (each (pieceOf t (place r)) r)) (sums .even) (sums .raw)
 
--- only the scratch's places 2n to 4n may have changed
-pub record Kept (n : ℕ) (before after : List ℕ) : Type 0 where
+-- post has no names of its own, whose places would stand in the scratch
+abbrev pub Unnamed : Option Bytes → Type 0
+Unnamed none = Unit {0}
+Unnamed (some b) = word32 b 0 ≡ 0x00020000 → ⊥
+
+-- only the scratch's places 2n to 4n may have changed, and only for names
+pub record Kept (post : Option Bytes) (n : ℕ) (before after : List ℕ) : Type 0 where
   pub same-length : length after ≡ length before
   pub front : take (2 * n) after ≡ take (2 * n) before
   pub back : drop (4 * n) after ≡ drop (4 * n) before
+  pub same : Unnamed post → after ≡ before
 
 -- post is measured: its size or the refusal, and its names' places in the scratch
 pub record PostSized (t : Tables) (n kept : ℕ) (before after : List ℕ) (r : Size) : Type 0 where
   pub size : sizeOf r ≡ mapRes lengthIn (optional (λ b. cutPost b (take kept before)) (t .post))
-  pub untouched : Kept n before after
+  pub untouched : Kept (t .post) n before after
   pub index : isOk (sizeOf r) ≡ true → (b : Bytes) → t .post ≡ some b → Indexed b after n kept
 
 -- what is left of steps 6 to 8 after each
@@ -87,7 +93,7 @@ pub record Planned (m : Res CutFont) (t : Tables) (n kept : ℕ) (before after :
   pub fits : p .fits ≡ isOk m
   pub refusal : p .refusal ≡ refusalOf m
   pub found : p .fits ≡ true → Found t (take kept before) p
-  pub untouched : Kept n before after
+  pub untouched : Kept (t .post) n before after
   pub index : p .fits ≡ true → (b : Bytes) → t .post ≡ some b → Indexed b after n kept
 
 -- steps 6 and 7 and 8 have passed, with these sizes

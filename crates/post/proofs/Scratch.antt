@@ -19,11 +19,11 @@ use Rattle.post.proofs.Found.{behind-roster}
 
 pub measured-refused : (b : List ℕ) (s : List ℕ) (n kept k : ℕ) → cutPost b (take kept s) ≡ refuse k → Measured b s n kept (No k) s
 measured-refused b s n kept k e =
-    record { size = sym (ap (mapRes length) e); same-length = refl; front = refl; back = refl; index = λ t. true-false (sym t) }
+    record { size = sym (ap (mapRes length) e); same-length = refl; front = refl; back = refl; index = λ t. true-false (sym t); unnamed = λ _. refl }
 
 pub measured-copied : (b : List ℕ) (s : List ℕ) (n kept : ℕ) → cutPost b (take kept s) ≡ ok b → (word32 b 0 ≡ 0x00020000 → ⊥) → Measured b s n kept (Bytes (length b)) s
 measured-copied b s n kept e v =
-    record { size = sym (ap (mapRes length) e); same-length = refl; front = refl; back = refl; index = λ t. record { index = λ w. absurd (v w) } }
+    record { size = sym (ap (mapRes length) e); same-length = refl; front = refl; back = refl; index = λ t. record { index = λ w. absurd (v w) }; unnamed = λ _. refl }
 
 -- the names found, and the rest of the table
 pub measured-cut : (b s after : List ℕ) (n kept r : ℕ) → kept ≤ n → 4 * n ≤ length s → Named b (take kept s) → Sought b n kept s r after
@@ -37,6 +37,7 @@ measured-cut b s after n kept r k h m x =
       front = x .behind .front;
       back = x .behind .back;
       index = λ t. record { index = λ w. rw (behind-roster n n s after (x .behind) kept (omega arith)) (x .located) };
+      unnamed = λ v. absurd (v (m .version));
     }
 
 -- what `measure` ensures is what `write` requires, of the scratch as it is then

@@ -135,10 +135,12 @@ Tells b ids (No k) = cutPost b ids ≡ refuse k
 Tells b ids Copied = (cutPost b ids ≡ ok b) × (word32 b 0 ≡ 0x00020000 → ⊥)
 Tells b ids (Wanted want) = Named b ids × (want ≤ 65278)
 
--- a measured table: its size or the refusal; the scratch, of which only the places 2n to 4n may have changed; what `write` goes by
+-- a measured table: its size or the refusal; the scratch, of which only the places 2n to 4n may have changed, and only if the table has names; what `write`
+-- goes by
 pub record Measured (b : Bytes) (scratch : List ℕ) (n kept : ℕ) (r : Size) (after : List ℕ) : Type 0 where
   pub size : sizeOf r ≡ mapRes length (cutPost b (take kept scratch))
   pub same-length : length after ≡ length scratch
   pub front : take (2 * n) after ≡ take (2 * n) scratch
   pub back : drop (4 * n) after ≡ drop (4 * n) scratch
   pub index : isOk (sizeOf r) ≡ true → Indexed b after n kept
+  pub unnamed : (word32 b 0 ≡ 0x00020000 → ⊥) → after ≡ scratch

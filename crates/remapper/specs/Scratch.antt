@@ -2,11 +2,13 @@
 -- links and the next links. The waiting components are a ring through glyph 0, which never waits: its next link is the top. A glyph with no
 -- number that does not wait is a ring of its own. A link is stored as its distance from the glyph, modulo 65,536: 0 is the glyph itself.
 use Prim.Native.Nat.{ℕ, _+_, _*_, _-_, _%_, _≤_, _<_}
+use mathlib.Core.Path.{_≡_}
+use mathlib.Core.Bool.{Bool, false}
 use mathlib.Core.List.{List}
-use lib.ListN.{length, getD, set, replicate}
+use lib.ListN.{length, getD, set, take, replicate}
 use lib.Dec.{eqb}
 use Rattle.model.specs.Res.{pick}
-use Rattle.model.specs.Bytes.{put}
+use Rattle.model.specs.Bytes.{put, member}
 
 abbrev pub num : ℕ → List ℕ → ℕ → ℕ
 num n s g = getD s (n + g) 0
@@ -57,3 +59,16 @@ pub record Linked (n : ℕ) (s : List ℕ) : Type 0 where
   pub size : 4 * n ≤ length s
   pub back : (g : ℕ) → g < n → prev n s g < n
   pub on : (g : ℕ) → g < n → next n s g < n
+
+-- the row that starts at base holds zeros, modulo 65,536, but for the ids of the roster, which are the first `kept` numbers
+pub record Sparse (n : ℕ) (s : List ℕ) (kept base : ℕ) : Type 0 where
+  pub few : kept ≤ n
+  pub behind : n ≤ base
+  pub room : base + n ≤ length s
+  pub low : (j : ℕ) → j < kept → getD s j 0 < n
+  pub others : (g : ℕ) → g < n → member g (take kept s) ≡ false → getD s (base + g) 0 % 65536 ≡ 0
+
+-- as the walk leaves the rows behind the roster: the numbers, and the links unless other things were written there
+pub record Sweepable (n : ℕ) (s : List ℕ) (kept : ℕ) (written : Bool) : Type 0 where
+  pub numbers : Sparse n s kept n
+  pub links : written ≡ false → Sparse n s kept (2 * n) × Sparse n s kept (3 * n)

@@ -3,10 +3,10 @@
 // unlinking and inserting have no branch and no top is carried; a glyph that doesn't wait is a ring of its own. A link is stored as its distance
 // from the glyph, modulo 65,536, so that zeros make each glyph a ring of its own: nothing else has to be filled in before the walk.
 ghost use mathlib.Core.Path.{_≡_};
-ghost use Prim.Native.Nat.{_+_, _*_, _≤_, _<_};
+ghost use Prim.Native.Nat.{ℕ, _+_, _*_, _-_, _≤_, _<_};
 ghost use lib.ListN.{length, getD, set, replicate};
 ghost use Rattle.model.specs.Bytes.{put};
-ghost use Rattle.remapper.specs.Scratch.{link, relinked, next, Linked, unlinked, inserted, moved, offered, given, taken, started};
+ghost use Rattle.remapper.specs.Scratch.{link, relinked, next, Linked, Sparse, Sweepable, unlinked, inserted, moved, offered, given, taken, started};
 ghost use Rattle.remapper.specs.State.{Numbering, Asked};
 
 // How many glyphs have a number, or the refusal.
@@ -158,11 +158,95 @@ pub fn zeros(s: &mut [u16], at: usize, count: usize)
     }
 }
 
+// The bits of so many numbers together: LLVM takes eight numbers at a time.
+fn bits(s: &[u16], at: usize, count: usize) -> u16
+    requires { ⌜ at + count ≤ length (now s) ⌝ }
+    ensures { λ r. ⌜ (r ≡ 0 → (j : ℕ) → j < count → getD (now (s .entry)) (at + j) 0 ≡ 0) ⌝ }
+{
+    let mut all = 0;
+    let mut i = 0;
+    while i < count {
+        all = all | s[at + i];
+        i += 1;
+    }
+    all
+}
+
+// So many zeros, written unless they are there.
+fn clear_block(s: &mut [u16], at: usize, count: usize)
+    requires { ⌜ at + count ≤ length (now s) ⌝ }
+    ensures { λ _. ⌜ now (s .exit) ≡ put (now (s .entry)) at (replicate count 0) ⌝ }
+{
+    if bits(s, at, count) == 0 {
+        return;
+    }
+    zeros(s, at, count);
+}
+
+// The same, block by block. A scratch that is lent again is zero but for a roster, and to look takes half as long as to write; where it is
+// short, to write is as fast.
+fn clear(s: &mut [u16], at: usize, count: usize)
+    requires { ⌜ at + count ≤ length (now s) ⌝ }
+    ensures { λ _. ⌜ now (s .exit) ≡ put (now (s .entry)) at (replicate count 0) ⌝ }
+{
+    if count < 32768 {
+        zeros(s, at, count);
+        return;
+    }
+    let mut i = 0;
+    while i + 512 <= count {
+        clear_block(s, at + i, 512);
+        i += 512;
+    }
+    zeros(s, at + i, count - i);
+}
+
+// Zeros in the row that starts at base, of which only the ids of the roster have other numbers: a few are put back one by one.
+fn clear_row(s: &mut [u16], n: usize, kept: usize, base: usize)
+    requires { ⌜ Sparse n (now s) kept base ⌝ }
+    ensures { λ _. ⌜ now (s .exit) ≡ put (now (s .entry)) base (replicate n 0) ⌝ }
+{
+    if n / 8 < kept {
+        zeros(s, base, n);
+        return;
+    }
+    let mut j = 0;
+    while j < kept {
+        let g = s[j] as usize;
+        s[base + g] = 0;
+        j += 1;
+    }
+}
+
+// Zeros in both rows of links, where the roster's glyphs were linked, or where other things were written since.
+fn clear_links(s: &mut [u16], n: usize, kept: usize, written: bool)
+    requires { ⌜ (n ≤ 65536) × (4 * n ≤ length (now s)) × Sweepable n (now s) kept written ⌝ }
+    ensures { λ _. ⌜ now (s .exit) ≡ put (now (s .entry)) (2 * n) (replicate (2 * n) 0) ⌝ }
+{
+    if written {
+        zeros(s, 2 * n, 2 * n);
+        return;
+    }
+    clear_row(s, n, kept, 2 * n);
+    clear_row(s, n, kept, 3 * n);
+}
+
+// "its first N places are the roster: old ids in new order; the others of the first 4n are zero". What the walk wrote is put back, so that
+// a large font of which little is kept is not gone over twice.
+pub fn sweep(s: &mut [u16], n: usize, kept: usize, written: bool)
+    requires { ⌜ (n ≤ 65536) × (4 * n ≤ length (now s)) × Sweepable n (now s) kept written ⌝ }
+    ensures { λ _. ⌜ now (s .exit) ≡ put (now (s .entry)) kept (replicate (4 * n - kept) 0) ⌝ }
+{
+    clear_links(s, n, kept, written);
+    clear_row(s, n, kept, n);
+    clear(s, kept, n - kept);
+}
+
 // "Glyph 0 gets number 0", and nothing waits.
 pub fn start(s: &mut [u16], n: usize)
     requires { ⌜ (0 < n) × (n ≤ 65536) × (4 * n ≤ length (now s)) ⌝ }
     ensures { λ _. ⌜ now (s .exit) ≡ started n (now (s .entry)) ⌝ }
 {
-    zeros(s, n, 3 * n);
+    clear(s, n, 3 * n);
     give(s, n, 0, 0);
 }

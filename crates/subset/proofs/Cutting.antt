@@ -1,12 +1,14 @@
 -- Step 5 and the scratch: the walk's roster, and what is cleared in the end.
 use mathlib.Core.Path.{_≡_, refl, sym, ap, ap₂, _∙_, subst}
+use mathlib.Core.Bool.{Bool, false}
+use mathlib.Core.Option.{Option}
 use mathlib.Core.List.{List, _++_}
-use Prim.Native.Nat.{ℕ, _+_, _*_, _-_, _≤_}
+use Prim.Native.Nat.{ℕ, _+_, _*_, _-_, _≤_, _<_}
 use native.Mathlib.Omega.{arith}
 use native.Mathlib.Nat.{sub-zero}
 use lib.Dec.{leb}
-use lib.Seq.{length-take-le}
-use lib.ListN.{length, take, drop, replicate, length-take}
+use lib.Seq.{length-take-le, getD-take}
+use lib.ListN.{length, getD, take, drop, replicate, length-take}
 use Rattle.model.specs.Res.{Res, refuse, ok, each, mapRes}
 use Rattle.model.specs.Bytes.{Bytes, put, place}
 use Rattle.model.specs.Font.{Tables}
@@ -23,15 +25,17 @@ use Rattle.model.proofs.Members.{by}
 use Rattle.answer.specs.declared.Answer.{Answer as Answers}
 use Rattle.answer.specs.declared.Answer.the-variants as case
 use Rattle.glyf.specs.Pieces.{lengthAt}
+use Rattle.remapper.specs.Scratch.{Sparse, Sweepable}
 use Rattle.remapper.specs.State.{Rostered, numberIn}
 use Rattle.closure.specs.declared.Closed.{Closed}
 use Rattle.closure.specs.declared.Closed.the-variants as closed
 use Rattle.closure.specs.Closes.{walkIn, Offsets, evenLength, rawLength, closedOf, totals, Closes}
 use Rattle.closure.proofs.Final.{walk-in, glyphs-offsets}
 use Rattle.remapper.proofs.Fills.{roster-left, nothing-left}
+use Rattle.remapper.proofs.Clears.{sparse-apart}
 use Rattle.plan.specs.Steps.{fileFrom}
 use Rattle.plan.specs.declared.Source.{Source}
-use Rattle.plan.specs.Sources.{fontOf, Opens, Walked, OutlinesAdded, Kept}
+use Rattle.plan.specs.Sources.{fontOf, Opens, Walked, OutlinesAdded, Unnamed, Kept}
 use Rattle.plan.proofs.Sizes.{added}
 use Rattle.subset.specs.Calls.{Rewrites, Cuts}
 use Rattle.subset.proofs.Call.{made-refused, made-from}
@@ -96,6 +100,7 @@ module _ (font : Bytes) (s : Source) (ids before after : List ℕ) (o : Opens fo
         same-length = same;
         past = v .past;
         roster = λ w f. ok-refuse (sym f ∙ m);
+        sweepable = λ w f. ok-refuse (sym f ∙ m);
       }
 
   module _ (kept even raw : ℕ) (e : answer ≡ closed.Kept kept even raw) where
@@ -125,6 +130,9 @@ module _ (font : Bytes) (s : Source) (ids before after : List ℕ) (o : Opens fo
           space = omega (arith, same);
         }
 
+    pub walk-sweepable : Sweepable (s .n) after kept false
+    walk-sweepable = subst (λ (k : ℕ). Sweepable (s .n) after k false) counted (v .sweepable (whole .0) (walked ∙ whole .1))
+
     pub walk-added : OutlinesAdded (fontOf font s) (take kept after) (record { even = even; raw = raw })
     walk-added =
         added font s after kept o walk-kept even raw
@@ -136,19 +144,36 @@ module _ (font : Bytes) (s : Source) (ids before after : List ℕ) (o : Opens fo
         over-font f q =
             sym q ∙ ap (f lengths) (sym is-roster) ∙ ap₂ (λ (l g : Bytes). f (lengthAt (width (s .long)) (s .n) l g) (take kept after)) is-loca is-glyf
 
+-- what the walk left is left by the rest too, but for names
+pub sweepable-stays : (post : Option Bytes) (n kept : ℕ) (middle after : List ℕ) → Sweepable n middle kept false → Kept post n middle after
+    → (written : Bool) → (written ≡ false → Unnamed post) → Sweepable n after kept written
+sweepable-stays post n kept middle after w k written u =
+    record {
+      numbers = sparse-apart after (w .numbers) (k .same-length) (λ j h. same j (omega arith)) (λ j h m. same j (omega arith));
+      links = λ e. subst (λ (s : List ℕ). Sparse n s kept (2 * n) × Sparse n s kept (3 * n)) (sym (k .same (u e))) (w .links refl);
+    }
+  where
+    same : (j : ℕ) → j < 2 * n → getD after j 0 ≡ getD middle j 0
+    same j h = sym (getD-take (2 * n) after j 0 h) ∙ ap (λ (s : List ℕ). getD s j 0) (k .front) ∙ getD-take (2 * n) middle j 0 h
+
 -- what the roster's rest gives, as the whole
 pub from-walk : (t : Tables) (n : ℕ) (ids : List ℕ) (kept : ℕ) (before middle after : List ℕ) (d e : Bytes) (a : Answers) → closure t ids ≡ ok (take kept middle) → kept ≤ length middle → take kept after ≡ take kept middle
-    → length middle ≡ length before → drop (4 * n) middle ≡ drop (4 * n) before → Rewrites t (take kept middle) n middle after d e a → Cuts t ids n before after d e a
-from-walk t n ids kept before middle after d e a c l stays same past v =
+    → length middle ≡ length before → drop (4 * n) middle ≡ drop (4 * n) before → Sweepable n middle kept false → Rewrites t (take kept middle) n middle after d e a → Cuts t ids n before after d e a
+from-walk t n ids kept before middle after d e a c l stays same past sw v =
     let m = made-from t ids (take kept middle) c in
     record {
       answers = v .answers ∙ sym (ap (last (length d)) m);
       writes = v .writes ∙ sym (ap (outFrom d) m);
       same-length = v .leaves .same-length ∙ same;
       past = v .leaves .back ∙ past;
-      roster = λ w f. stands w (file-roster t (take kept middle) (rewrite t (take kept middle)) w (rewrite-roster t (take kept middle)) (sym m ∙ f));
+      roster = λ w f. stands w (is-roster w (sym m ∙ f));
+      sweepable = λ w f written u.
+          subst (λ (k : ℕ). Sweepable n after k written) (sym (ap length (is-roster w (sym m ∙ f)) ∙ length-take-le kept middle l)) (sweepable-stays (t .post) n kept middle after sw (v .leaves) written u);
     }
   where
+    is-roster : (w : Made) → fileFrom (rewrite t (take kept middle)) ≡ ok w → w .roster ≡ take kept middle
+    is-roster w f = file-roster t (take kept middle) (rewrite t (take kept middle)) w (rewrite-roster t (take kept middle)) f
+
     stands : (w : Made) → w .roster ≡ take kept middle → take (length (w .roster)) after ≡ w .roster
     stands w q =
         ap (λ (r : List ℕ). take (length r) after) q ∙ ap (λ (i : ℕ). take i after) (length-take-le kept middle l) ∙ stays ∙ sym q

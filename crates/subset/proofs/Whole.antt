@@ -1,13 +1,15 @@
 -- The whole call: refused before step 5, or cut and cleared.
 use mathlib.Core.Path.{_≡_, refl, sym, ap, _∙_, subst}
-use mathlib.Core.List.{List, _++_}
+use mathlib.Core.Bool.{Bool, true, false}
+use mathlib.Core.Option.{none, some}
+use mathlib.Core.List.{List, [], _∷_, _++_}
 use Prim.Native.Nat.{ℕ, _+_, _*_, _-_, _≤_, _<_}
 use native.Mathlib.Omega.{arith}
 use lib.Dec.{leb}
 use lib.ListN.{length, drop, replicate}
 use borrow.Author.Tests.{eq-eqb, ne-eqb}
-use Rattle.model.specs.Res.{Res, refuse, ok, _>>=_}
-use Rattle.model.specs.Bytes.{Bytes, put}
+use Rattle.model.specs.Res.{Res, refuse, ok, pick, _>>=_}
+use Rattle.model.specs.Bytes.{Bytes, word32, put}
 use Rattle.model.specs.Font.{Tables, Entry, read, faceStart, directory, gather, usable, find, must, GLYF, LOCA, HEAD, HHEA, HMTX, MAXP}
 use Rattle.model.specs.Glyf.{widthOf}
 use Rattle.model.specs.File.{entries, file}
@@ -21,12 +23,14 @@ use Rattle.model.proofs.Must.{must-inv}
 use Rattle.answer.specs.declared.Answer.{Answer}
 use Rattle.answer.specs.declared.Answer.the-variants as case
 use Rattle.answer.specs.Answers.{answerOf}
-use Rattle.places.specs.Places.{contents}
+use Rattle.places.specs.declared.Tables.{Tables as Places}
+use Rattle.places.specs.Places.{placeAt, contentAt, optionAt, contents}
 use Rattle.face.specs.declared.Face.{Face}
 use Rattle.face.specs.Opening.{Opened}
 use Rattle.closure.proofs.Final.{glyphs-small}
 use Rattle.plan.specs.declared.Source.{Source}
-use Rattle.plan.specs.Sources.{fontOf, Long, Opens}
+use Rattle.remapper.specs.Scratch.{Sweepable}
+use Rattle.plan.specs.Sources.{fontOf, Long, Opens, Unnamed}
 use Rattle.subset.specs.Calls.{lent, Cuts}
 use Rattle.subset.proofs.Call.{not-ready, read-refuses, scratch-short, is-ready, from-made}
 use Rattle.subset.proofs.Cutting.{cleared, rewrite-roster}
@@ -74,12 +78,34 @@ module _ (font : Bytes) (s : Source) (o : Opens font s) (ids before after : List
   pub roster-room : (w : Made) → made (fontOf font s) ids ≡ ok w → length (w .roster) ≤ 4 * s .n
   roster-room w q = omega (arith, o .number, roster-few (fontOf font s) ids w q)
 
-  pub kept-room : answerOf a .kept ≤ 4 * s .n
-  kept-room = subst (λ (x : Answers). x .kept ≤ 4 * s .n) (sym (v .answers)) (go (made (fontOf font s) ids) refl)
+  -- a roster was answered, so its font was made, and what the walk left is known
+  pub kept-sweepable : (kept : ℕ) → kept ≡ answerOf a .kept → (kept ≡ 0 → ⊥) → (written : Bool) → (written ≡ false → Unnamed ((fontOf font s) .post)) → Sweepable (s .n) after kept written
+  kept-sweepable kept k there written u = go (made (fontOf font s) ids) refl
     where
-      go : (m : Res Made) → made (fontOf font s) ids ≡ m → last (length d) m .kept ≤ 4 * s .n
-      go (refuse k) q = omega arith
-      go (ok w) q = by (leb (length (w .bytes)) (length d)) (λ t. rw t (roster-room w q)) (λ t. rw t (omega arith))
+      is-last : kept ≡ last (length d) (made (fontOf font s) ids) .kept
+      is-last = k ∙ ap (λ (x : Answers). x .kept) (v .answers)
+
+      go : (m : Res Made) → made (fontOf font s) ids ≡ m → Sweepable (s .n) after kept written
+      go (refuse j) q = absurd (there (is-last ∙ ap (λ (m : Res Made). last (length d) m .kept) q))
+      go (ok w) q =
+          let e = is-last ∙ ap (λ (m : Res Made). last (length d) m .kept) q in
+          by (leb (length (w .bytes)) (length d))
+          (λ t. subst (λ (n : ℕ). Sweepable (s .n) after n written) (sym (rw t at e)) (v .sweepable w q written u))
+          (λ t. absurd (there (rw t at e)))
+
+-- a table of no bytes has no names
+pub nothing-named : (b : Bytes) → length b ≡ 0 → word32 b 0 ≡ 0x00020000 → ⊥
+nothing-named [] e v = absurd (omega arith)
+nothing-named (x ∷ xs) e v = absurd (omega arith)
+
+-- what stands where post would is not of version 2: then there are no names
+pub post-unnamed : (font : Bytes) (t : Places) → (word32 (contentAt font t 9) 0 ≡ 0x00020000 → ⊥) → Unnamed ((contents font t) .post)
+unfolding contents optionAt
+post-unnamed font t u = go ((placeAt t 9) .present)
+  where
+    go : (present : Bool) → Unnamed (pick present (some (contentAt font t 9)) none)
+    go true = u
+    go false = tt
 
 module _ (font : Bytes) (index : ℕ) (f : Face) (o : Opened font index f) where
   pub opened-refused : (f .refusal ≡ 0 → ⊥) → read font index ≡ refuse (f .refusal)

@@ -11,10 +11,11 @@ use Rattle.model.specs.Cut.{rewrite}
 use Rattle.model.specs.Call.{Input, Made, made, last, outFrom}
 use Rattle.answer.specs.declared.Answer.{Answer}
 use Rattle.answer.specs.Answers.{answerOf}
+use Rattle.remapper.specs.Scratch.{Sweepable}
 use Rattle.places.specs.declared.Tables.{Tables as Places}
 use Rattle.places.specs.Places.{placeAt}
 use Rattle.plan.specs.Steps.{fileFrom}
-use Rattle.plan.specs.Sources.{Kept}
+use Rattle.plan.specs.Sources.{Unnamed, Kept}
 
 -- what the public call is lent
 abbrev pub lent : Bytes → ℕ → List ℕ → List ℕ → Bytes → Input
@@ -29,12 +30,13 @@ pub record Narrow (sized : Places) (r : Bool) : Type 0 where
 pub record Rewrites (t : Tables) (r : List ℕ) (n : ℕ) (before after : List ℕ) (d e : Bytes) (a : Answer) : Type 0 where
   pub answers : answerOf a ≡ last (length d) (fileFrom (rewrite t r))
   pub writes : e ≡ outFrom d (fileFrom (rewrite t r))
-  pub leaves : Kept n before after
+  pub leaves : Kept (t .post) n before after
 
--- steps 5 to 10: the scratch holds the roster after a success; its first 4n places are to be cleared
+-- steps 5 to 10: the scratch holds the roster after a success; its other places up to 4n are to be cleared, of which the walk left few to do
 pub record Cuts (t : Tables) (ids : List ℕ) (n : ℕ) (before after : List ℕ) (d e : Bytes) (a : Answer) : Type 0 where
   pub answers : answerOf a ≡ last (length d) (made t ids)
   pub writes : e ≡ outFrom d (made t ids)
   pub same-length : length after ≡ length before
   pub past : drop (4 * n) after ≡ drop (4 * n) before
   pub roster : (m : Made) → made t ids ≡ ok m → take (length (m .roster)) after ≡ m .roster
+  pub sweepable : (m : Made) → made t ids ≡ ok m → (written : Bool) → (written ≡ false → Unnamed (t .post)) → Sweepable n after (length (m .roster)) written

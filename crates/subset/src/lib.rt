@@ -6,11 +6,13 @@ use places::Tables;
 use plan::Source;
 use plan::Sums;
 ghost use mathlib.Core.Path.{_≡_};
+ghost use mathlib.Core.Bool.{false};
 ghost use Prim.Native.Nat.{_*_, _≤_};
 ghost use lib.ListN.{length, take};
 ghost use Rattle.model.specs.Call.{Promise};
 ghost use Rattle.answer.specs.Answers.{answerOf};
-ghost use Rattle.plan.specs.Sources.{fontOf, Opens, Walked, OutlinesAdded};
+ghost use Rattle.places.specs.Places.{contents, Within};
+ghost use Rattle.plan.specs.Sources.{fontOf, Opens, Walked, OutlinesAdded, Unnamed};
 ghost use Rattle.subset.specs.Calls.{lent, Narrow, Rewrites, Cuts};
 
 // Whether every length fits 32 bits. If one doesn't, the file is too long; if all do, the layout's sums stay small.
@@ -99,6 +101,21 @@ fn roster_length(a: Answer) -> usize
     }
 }
 
+// Whether post may have names of its own: their places were in the scratch.
+fn named(font: &[u8], t: Tables) -> bool
+    requires { ⌜ Within (now font) t ⌝ }
+    ensures { λ r. ⌜ (r ≡ false → Unnamed ((contents (now (font .entry)) t) .post)) ⌝ }
+{
+    let post = face::table(font, t, 9);
+    if post.len() == 0 {
+        return false;
+    }
+    if post.len() < 4 {
+        return true;
+    }
+    read::u32_at(post, 0) == 0x0002_0000
+}
+
 // Cuts a font down to glyph 0, the ids asked for and what their components need. `scratch` must hold 4n numbers and `out` the file;
 // afterwards the first N places of the scratch are the roster.
 pub fn subset(font: &[u8], index: u32, ids: &[u16], scratch: &mut [u16], out: &mut [u8]) -> Answer
@@ -115,7 +132,11 @@ pub fn subset(font: &[u8], index: u32, ids: &[u16], scratch: &mut [u16], out: &m
         return Answer::No(8);
     }
     let a = cut(font, s, ids, scratch, out);
-    let from = roster_length(a);
-    remapper::zeros(scratch, from, 4 * n - from);
+    let kept = roster_length(a);
+    if kept == 0 {
+        remapper::zeros(scratch, kept, 4 * n - kept);
+        return a;
+    }
+    remapper::sweep(scratch, n, kept, named(font, s.tables));
     a
 }

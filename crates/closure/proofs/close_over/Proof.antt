@@ -18,7 +18,7 @@ returns c =
     let parts = partsIn (width (a .long)) (a .n) (a .loca .now) (a .glyf .now) in
     let lengths = lengthAt (width (a .long)) (a .n) (a .loca .now) (a .glyf .now) in
     let alike = alike-in (width (a .long)) (a .n) (a .loca .now) (a .glyf .now) (a .ids .now) in
-    closes-none parts lengths (2 + length (a .ids .now) + a .n * length (a .glyf .now)) (a .n) (a .ids .now) alike (c .if1 .taken) (a .scratch .now)
+    closes-none parts lengths (2 + length (a .ids .now) + a .n * length (a .glyf .now)) (a .n) (a .ids .now) alike (c .before .before .before .before .before .pre .0) (c .if1 .taken) (a .scratch .now)
 
 start-requires : tie.Need-start-requires
 start-requires c κs = search needs
@@ -60,7 +60,7 @@ returns-2 c =
     let parts = partsIn (width (a .long)) (a .n) (a .loca .now) (a .glyf .now) in
     let lengths = lengthAt (width (a .long)) (a .n) (a .loca .now) (a .glyf .now) in
     let alike = alike-in (width (a .long)) (a .n) (a .loca .now) (a .glyf .now) (a .ids .now) in
-    closes-run parts lengths (2 + length (a .ids .now) + a .n * length (a .glyf .now)) (a .n) (a .ids .now) alike (c .before .before .before .before .before .before .before .before .before .before .before .before .before .before .before .if1 .left) (a .scratch .now) (c .before .before .before .before .before .before .before .before .before .before .before .before .before .before .before .before .before .before .before .before .pre .1) (s .last .0) (s .ensures) (t .last .1 .0)
+    closes-run parts lengths (2 + length (a .ids .now) + a .n * length (a .glyf .now)) (a .n) (a .ids .now) alike (c .before .before .before .before .before .before .before .before .before .before .before .before .before .before .before .before .before .before .before .before .pre .0) (c .before .before .before .before .before .before .before .before .before .before .before .before .before .before .before .if1 .left) (a .scratch .now) (c .before .before .before .before .before .before .before .before .before .before .before .before .before .before .before .before .before .before .before .before .pre .1) (s .last .0) (s .ensures) (t .last .1 .0)
     (of .0 .0) (r .last .1 .1 .1 .0) (r .result) done (r .ensures)
 
 same-length-2 : tie.Need-same-length-2
@@ -77,7 +77,7 @@ returns-3 c =
     let parts = partsIn (width (a .long)) (a .n) (a .loca .now) (a .glyf .now) in
     let lengths = lengthAt (width (a .long)) (a .n) (a .loca .now) (a .glyf .now) in
     let alike = alike-in (width (a .long)) (a .n) (a .loca .now) (a .glyf .now) (a .ids .now) in
-    closes-no parts lengths (2 + length (a .ids .now) + a .n * length (a .glyf .now)) (a .n) (a .ids .now) alike (c .before .before .before .before .before .before .before .before .before .before .before .if1 .left) (a .scratch .now) (c .before .before .before .before .before .before .before .before .before .before .before .before .before .before .before .before .pre .1) (s .last .0) (s .ensures) (t .last .1 .0)
+    closes-no parts lengths (2 + length (a .ids .now) + a .n * length (a .glyf .now)) (a .n) (a .ids .now) alike (c .before .before .before .before .before .before .before .before .before .before .before .before .before .before .before .before .pre .0) (c .before .before .before .before .before .before .before .before .before .before .before .if1 .left) (a .scratch .now) (c .before .before .before .before .before .before .before .before .before .before .before .before .before .before .before .before .pre .1) (s .last .0) (s .ensures) (t .last .1 .0)
     (no .0 .0) refusal
 
 pub close-over-spec : {M : Type 1} → statement M

@@ -36,7 +36,7 @@ returns c =
     let r = take (a .kept) (a .scratch .now) in
     let p = c .before .before .before .before .before .before .before .before .pre in
     planned-refused sizes (metrics (t .hhea) (t .hmtx) r) (afterMetrics t r) (rewrite t r) (metrics-step t r (pieces-fine (a .font .now) (a .s) (a .scratch .now) (a .kept) (p .0) (p .1))) t (a .s .n) (a .kept) (a .scratch .now) _ _ _
-    (ap measuredOf (sym (c .before .before .size .given .1)) ∙ c .before .before .before .before .metrics-size .ensures) (c .refused .ensures) (kept-all (a .s .n) (a .scratch .now))
+    (ap measuredOf (sym (c .before .before .size .given .1)) ∙ c .before .before .before .before .metrics-size .ensures) (c .refused .ensures) (kept-all _ (a .s .n) (a .scratch .now))
 
 same-length-2 : tie.Need-same-length-2
 same-length-2 c = search needs

@@ -34,7 +34,7 @@ returns c =
     let t = fontOf (a .font .now) (a .s) in
     let r = take (a .kept) (a .scratch .now) in
     planned-refused lengthIn (optional cutName (t .name)) (afterName t r) (afterMetrics t r) (name-step t r) t (a .s .n) (a .kept) (a .scratch .now) _ _ _
-    (ap sizeOf (sym (c .before .before .size .given .1)) ∙ c .before .before .before .before .name-size .ensures) (c .refused .ensures) (kept-all (a .s .n) (a .scratch .now))
+    (ap sizeOf (sym (c .before .before .size .given .1)) ∙ c .before .before .before .before .name-size .ensures) (c .refused .ensures) (kept-all _ (a .s .n) (a .scratch .now))
 
 same-length : tie.Need-same-length
 same-length c = search needs

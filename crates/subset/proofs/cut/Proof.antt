@@ -3,7 +3,7 @@ use native.Mathlib.Omega.{arith}
 use Rattle.model.specs.Glyf.{widthOf}
 use Rattle.places.specs.Places.{contents}
 use Rattle.plan.specs.Sources.{fontOf}
-use Rattle.subset.proofs.Cutting.{offsets, walk-refused, walk-closes, walk-kept, walk-added, from-walk}
+use Rattle.subset.proofs.Cutting.{offsets, walk-refused, walk-closes, walk-kept, walk-sweepable, walk-added, from-walk}
 use Rattle.closure.proofs.Final.{glyphs-small}
 use Rattle.plan.proofs.Planning.{roster-stays}
 use borrow.Author.Needs.{needs}
@@ -79,7 +79,7 @@ returns-2 c =
     let g = c .before .before .before .before .before .before .before .before .before .before .before .before .before .before .table2 .ensures in
     let k = c .before .before .before .before .before .before .before .before .c2 .given in
     let w = walk-kept (a .font .now) (a .s) (a .ids .now) (a .scratch .now) z o (c .before .before .before .before .before .before .before .before .before .before .before .before .before .before .before .before .before .before .before .before .before .pre .1) same _ _ l g _ v (k .0 .0) (k .0 .1 .0) (k .0 .1 .1 .0) (k .1) in
-    from-walk (fontOf (a .font .now) (a .s)) (a .s .n) (a .ids .now) (k .0 .0) (a .scratch .now) z _ (a .out .now) _ _ (walk-closes (a .font .now) (a .s) (a .ids .now) (a .scratch .now) z o (c .before .before .before .before .before .before .before .before .before .before .before .before .before .before .before .before .before .before .before .before .before .pre .1) same _ _ l g _ v (k .0 .0) (k .0 .1 .0) (k .0 .1 .1 .0) (k .1)) (w .inside) (roster-stays (a .font .now) (a .s) z _ (k .0 .0) o w (c .before .before .before .before .rewrite .ensures .leaves)) same (v .past) (c .before .before .before .before .rewrite .ensures)
+    from-walk (fontOf (a .font .now) (a .s)) (a .s .n) (a .ids .now) (k .0 .0) (a .scratch .now) z _ (a .out .now) _ _ (walk-closes (a .font .now) (a .s) (a .ids .now) (a .scratch .now) z o (c .before .before .before .before .before .before .before .before .before .before .before .before .before .before .before .before .before .before .before .before .before .pre .1) same _ _ l g _ v (k .0 .0) (k .0 .1 .0) (k .0 .1 .1 .0) (k .1)) (w .inside) (roster-stays (a .font .now) (a .s) z _ (k .0 .0) o w (c .before .before .before .before .rewrite .ensures .leaves)) same (v .past) (walk-sweepable (a .font .now) (a .s) (a .ids .now) (a .scratch .now) z o (c .before .before .before .before .before .before .before .before .before .before .before .before .before .before .before .before .before .before .before .before .before .pre .1) same _ _ l g _ v (k .0 .0) (k .0 .1 .0) (k .0 .1 .1 .0) (k .1)) (c .before .before .before .before .rewrite .ensures)
 
 pub cut-spec : {M : Type 1} → statement M
 cut-spec =
