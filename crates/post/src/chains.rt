@@ -441,13 +441,40 @@ fn set_head(room: &mut [u16], i: usize, base: usize, first: usize, last: usize)
     room[7 + 4 * i] = last as u16;
 }
 
-// Where name k stands, or where the list ended before it: in the last chain whose first name isn't behind it, at its place there, or
-// as far behind the last place as is left.
-pub fn name_at(post: &[u8], room: &[u16], k: usize) -> usize
+// Where name k stands, or where the list ended before it, and in which chain: that of the last lookup, which roster order mostly comes
+// back to, or the last one whose first name isn't behind it.
+pub fn name_near(post: &[u8], room: &[u16], chain: usize, k: usize) -> names::Near
     requires { ⌜ Chained (now post) (now room) ⌝ }
+    ensures { λ r. ⌜ Stands (now (post .entry)) (r .place) k ⌝ }
+{
+    let i = near(room, chain, k);
+    names::Near {
+        place: name_in(post, room, i, k),
+        chain: i,
+    }
+}
+
+// The chain, if it holds name k, or else the last one whose first name isn't behind it.
+fn near(room: &[u16], chain: usize, k: usize) -> usize
+    requires { ⌜ (8 ≤ getD (now room) 2 0) × (4 + 4 * getD (now room) 2 0 ≤ length (now room)) × (getD (now room) 6 0 ≡ 0) ⌝ }
+    ensures { λ r. ⌜ (r < getD (now (room .entry)) 2 0) × (getD (now (room .entry)) (6 + 4 * r) 0 ≤ k) ⌝ }
+{
+    if chain < names::wide(room[2]) {
+        let first = names::wide(room[6 + 4 * chain]);
+        if first <= k {
+            if k - first <= names::wide(room[7 + 4 * chain]) {
+                return chain;
+            }
+        }
+    }
+    chain_of(room, k)
+}
+
+// In a chain whose first name isn't behind it, name k stands at its place there, or as far behind the last place as is left.
+fn name_in(post: &[u8], room: &[u16], i: usize, k: usize) -> usize
+    requires { ⌜ Chained (now post) (now room) × (i < getD (now room) 2 0) × (getD (now room) (6 + 4 * i) 0 ≤ k) ⌝ }
     ensures { λ r. ⌜ Stands (now (post .entry)) r k ⌝ }
 {
-    let i = chain_of(room, k);
     let j = k - names::wide(room[6 + 4 * i]);
     let last = names::wide(room[7 + 4 * i]);
     if last < j {

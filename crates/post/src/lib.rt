@@ -32,6 +32,12 @@ enum Tested {
     Wanted(usize),
 }
 
+// A name was found: the bytes it takes, and the chain that holds its place.
+struct Name {
+    size: usize,
+    chain: usize,
+}
+
 // Step 8: how long the new table is, or the refusal. The roster is scratch[..kept]; the free half gets what `write` needs.
 pub fn measure(post: &[u8], scratch: &mut [u16], n: usize, kept: usize) -> answer::Size
     requires { ⌜ (kept ≤ 65535) × (kept ≤ n) × (0 < n) × (n ≤ 65536) × (4 * n ≤ length (now scratch)) ⌝ }
@@ -218,43 +224,65 @@ fn names_size(
     ensures { λ r. ⌜ (r ≡ length (flatMap (nameBytes (now (post .entry))) (take kept (now (scratch .entry))))) × Placing (now (post .entry)) n at kept (now (scratch .entry)) (now (scratch .exit)) ⌝ }
 {
     let mut size: usize = 0;
+    let mut chain: usize = 0;
     let mut j = 0;
     while j < kept {
-        size = size + name_size(post, own, scratch, n, at, j);
+        let named = name_size(post, own, scratch, n, at, chain, j);
+        size = size + named.size;
+        chain = named.chain;
         j += 1;
     }
     size
 }
 
 // How many bytes the name of roster place j takes, its length byte too: none if its index is 257 or below, one if it is missing.
-fn name_size(post: &[u8], own: &[u16], scratch: &mut [u16], n: usize, at: usize, j: usize) -> usize
+fn name_size(
+    post: &[u8],
+    own: &[u16],
+    scratch: &mut [u16],
+    n: usize,
+    at: usize,
+    chain: usize,
+    j: usize,
+) -> Name
     requires { ⌜ Index (now post) (indexFor (now own) (now scratch) n at) × (length (now post) ≤ 4294967295) ⌝ }
     requires { ⌜ 34 + 2 * getD (now scratch) j 0 + 2 ≤ length (now post) ⌝ }
     requires { ⌜ (j < n) × (n ≤ at) × (n ≤ 65536) × (at ≤ 2 * n) × (4 * n ≤ length (now scratch)) ⌝ }
     requires { ⌜ (at < 2 * n → at + j < 2 * n) ⌝ }
-    ensures { λ r. ⌜ Sized (now (post .entry)) n at j (now (scratch .entry)) r (now (scratch .exit)) ⌝ }
+    ensures { λ r. ⌜ Sized (now (post .entry)) n at j (now (scratch .entry)) (r .size) (now (scratch .exit)) ⌝ }
 {
     let i = index_at(post, scratch[j]);
     if i <= 257 {
-        return 0;
+        return Name { size: 0, chain };
     }
-    let p = look_up(post, own, scratch, n, at, i - 258);
-    put_away(post, scratch, n, at, j, p);
-    1 + names::size_at(post, p)
+    let found = look_up(post, own, scratch, n, at, chain, i - 258);
+    put_away(post, scratch, n, at, j, found.place);
+    Name {
+        size: 1 + names::size_at(post, found.place),
+        chain: found.chain,
+    }
 }
 
-// Where name k stands.
-fn look_up(post: &[u8], own: &[u16], scratch: &[u16], n: usize, at: usize, k: usize) -> usize
+// Where name k stands, looked for in a chain first.
+fn look_up(
+    post: &[u8],
+    own: &[u16],
+    scratch: &[u16],
+    n: usize,
+    at: usize,
+    chain: usize,
+    k: usize,
+) -> names::Near
     requires { ⌜ Index (now post) (indexFor (now own) (now scratch) n at) × (34 ≤ length (now post)) ⌝ }
     requires { ⌜ (n ≤ at) × (at ≤ 131072) × (2 * at ≤ length (now scratch)) ⌝ }
-    ensures { λ r. ⌜ Stands (now (post .entry)) r k ⌝ }
+    ensures { λ r. ⌜ Stands (now (post .entry)) (r .place) k ⌝ }
 {
     if own.len() == 0 {
         let from = 2 * n;
         let end = 2 * at;
-        return names::name_at(post, &scratch[from..end], k);
+        return names::name_near(post, &scratch[from..end], chain, k);
     }
-    names::name_at(post, own, k)
+    names::name_near(post, own, chain, k)
 }
 
 // The place found for roster place j, if places are put away.

@@ -8,6 +8,12 @@ ghost use lib.ListN.{length, getD};
 ghost use Rattle.model.specs.Bytes.{word16};
 ghost use Rattle.post.specs.Post.{sizeAt, walked, Stands, placeIn, withPlace, Strided, Index};
 
+// Where a name stands, and in which chain it was found.
+pub struct Near {
+    pub place: usize,
+    pub chain: usize,
+}
+
 // How long the name at p is. "The names list ends at an empty or cut name": then 0.
 pub fn size_at(post: &[u8], p: usize) -> usize
     ensures { λ r. ⌜ r ≡ sizeAt (now (post .entry)) p ⌝ }
@@ -91,6 +97,21 @@ pub fn name_at(post: &[u8], room: &[u16], k: usize) -> usize
     name_far(post, room, k)
 }
 
+// The same beside the lookup before it, which was in this chain.
+pub fn name_near(post: &[u8], room: &[u16], chain: usize, k: usize) -> Near
+    requires { ⌜ Index (now post) (now room) ⌝ }
+    requires { ⌜ 34 ≤ length (now post) ⌝ }
+    ensures { λ r. ⌜ Stands (now (post .entry)) (r .place) k ⌝ }
+{
+    if wide(room[0]) == 0 {
+        return chains::name_near(post, room, chain, k);
+    }
+    Near {
+        place: name_at(post, room, k),
+        chain,
+    }
+}
+
 fn name_far(post: &[u8], room: &[u16], k: usize) -> usize
     requires { ⌜ Index (now post) (now room) ⌝ }
     requires { ⌜ 34 ≤ length (now post) ⌝ }
@@ -98,7 +119,7 @@ fn name_far(post: &[u8], room: &[u16], k: usize) -> usize
 {
     let s = wide(room[0]);
     if s == 0 {
-        return chains::name_at(post, room, k);
+        return chains::name_near(post, room, 0, k).place;
     }
     name_by_stride(post, room, k, s)
 }

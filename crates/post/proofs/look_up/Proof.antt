@@ -12,21 +12,21 @@ mul-from c = search needs
 mul-end : tie.Need-mul-end
 mul-end c = search needs
 
-mul-name-at : tie.Need-mul-name-at
-mul-name-at c = search needs
+mul-name-near : tie.Need-mul-name-near
+mul-name-near c = search needs
 
-sub-name-at : tie.Need-sub-name-at
-sub-name-at c = search needs
+sub-name-near : tie.Need-sub-name-near
+sub-name-near c = search needs
 
-part-name-at-start : tie.Need-part-name-at-start
-part-name-at-start c = search needs
+part-name-near-start : tie.Need-part-name-near-start
+part-name-near-start c = search needs
 
-part-name-at-end : tie.Need-part-name-at-end
-part-name-at-end c = search needs
+part-name-near-end : tie.Need-part-name-near-end
+part-name-near-end c = search needs
 
-name-at-requires : tie.Need-name-at-requires
+name-near-requires : tie.Need-name-near-requires
 unfolding indexFor
-name-at-requires c κs =
+name-near-requires c κs =
     let a = c .before .before .before .before .before .args in
     let p = c .before .before .before .before .before .pre .0 in
     (rw (eq-eqb (length (a .own .now)) 0 (c .before .if1 .taken)) at (p .0), p .1)
@@ -34,9 +34,9 @@ name-at-requires c κs =
 returns : tie.Need-returns
 returns c = search needs
 
-name-at-requires-2 : tie.Need-name-at-requires-2
+name-near-requires-2 : tie.Need-name-near-requires-2
 unfolding indexFor
-name-at-requires-2 c κs =
+name-near-requires-2 c κs =
     let a = c .before .before .before .before .args in
     let p = c .before .before .before .before .pre .0 in
     (rw (ne-eqb (length (a .own .now)) 0 (c .if1 .left)) at (p .0), p .1)
@@ -50,11 +50,11 @@ look-up-spec =
     (tie.spec
     mul-from
     mul-end
-    mul-name-at
-    sub-name-at
-    part-name-at-start
-    part-name-at-end
-    name-at-requires
+    mul-name-near
+    sub-name-near
+    part-name-near-start
+    part-name-near-end
+    name-near-requires
     returns
-    name-at-requires-2
+    name-near-requires-2
     returns-2)

@@ -47,14 +47,14 @@ put-away-requires c κs =
 size-at-requires : tie.Need-size-at-requires
 size-at-requires c κs = search needs
 
-add-result : tie.Need-add-result
-add-result c =
+add-t19 : tie.Need-add-t19
+add-t19 c =
     let a = c .before .before .before .before .before .before .before .before .before .before .before .before .before .args in
     let g = getD (a .scratch .now) (a .j) 0 in
     let i = c .before .before .before .before .before .before .before .before .index-at in
     let p = c .before .before .before .before .before .look-up in
-    let s : Stands (a .post .now) (p .result) (indexOf (a .post .now) g - 258) = rw (i .ensures .0) at (p .ensures) in
-    omega (arith, name-bounded (a .post .now) g, length-stored (a .post .now) g (p .result) (omega arith) s)
+    let s : Stands (a .post .now) (p .result .place) (indexOf (a .post .now) g - 258) = rw (i .ensures .0) at (p .ensures) in
+    omega (arith, name-bounded (a .post .now) g, length-stored (a .post .now) g (p .result .place) (omega arith) s, c .before .before .before .before .before .before .before .before .before .before .before .before .before .pre .0 .1)
 
 same-length : tie.Need-same-length
 same-length c = search needs
@@ -65,10 +65,10 @@ returns-2 c =
     let g = getD (a .scratch .now) (a .j) 0 in
     let i = c .before .before .before .before .before .before .before .before .index-at in
     let p = c .before .before .before .before .before .look-up in
-    let s : Stands (a .post .now) (p .result) (indexOf (a .post .now) g - 258) = rw (i .ensures .0) at (p .ensures) in
+    let s : Stands (a .post .now) (p .result .place) (indexOf (a .post .now) g - 258) = rw (i .ensures .0) at (p .ensures) in
     let w = c .before .before .before .put-away .ensures in
     record {
-      size = omega (arith, length-stored (a .post .now) g (p .result) (omega arith) s);
+      size = omega (arith, length-stored (a .post .now) g (p .result .place) (omega arith) s);
       behind = w .behind;
       others = w .others;
       here = λ h q. w .here h _ s;
@@ -86,6 +86,6 @@ name-size-spec =
     look-up-requires
     put-away-requires
     size-at-requires
-    add-result
+    add-t19
     same-length
     returns-2)

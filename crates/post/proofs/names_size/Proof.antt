@@ -14,10 +14,10 @@ use Rattle.post.proofs.names_size.Statement.{statement}
 use Rattle.post.proofs.names_size.Tie as tie
 
 abbrev Inv-loop : tie.InvT-loop
-Inv-loop post own scratch₀ n kept at size₀ j₀ scratch size j = (j ≤ kept) × (size ≤ 4294967296 * j) × (size ≡ length (flatMap (nameBytes post) (take j (take kept scratch₀)))) × Placing post n at j scratch₀ scratch
+Inv-loop post own scratch₀ n kept at size₀ chain₀ j₀ scratch size chain j = (j ≤ kept) × (size ≤ 4294967296 * j) × (size ≡ length (flatMap (nameBytes post) (take j (take kept scratch₀)))) × Placing post n at j scratch₀ scratch
 
 abbrev μ-loop : tie.MeasureT-loop
-μ-loop post own scratch₀ n kept at size₀ j₀ scratch size j = kept - j
+μ-loop post own scratch₀ n kept at size₀ chain₀ j₀ scratch size chain j = kept - j
 
 loop-holds : tie.Need-loop-holds Inv-loop μ-loop
 unfolding flatMap
@@ -41,9 +41,9 @@ name-size-requires c κs =
 
 add-size : tie.Need-add-size Inv-loop μ-loop
 add-size c =
-    let a = c .before .before .before .before .before .before .before .before .before .args in
-    let l = c .before .before .before .before .before .loop in
-    omega (arith, c .before .before .name-size .ensures .size, name-bounded (a .post .now) (getD (l .scratch) (l .j) 0))
+    let a = c .before .before .before .before .before .before .before .before .before .before .args in
+    let l = c .before .before .before .before .before .before .loop in
+    omega (arith, c .before .before .before .name-size .ensures .size, name-bounded (a .post .now) (getD (l .scratch) (l .j) 0))
 
 add-j : tie.Need-add-j Inv-loop μ-loop
 add-j c = search needs
@@ -53,9 +53,9 @@ loop-less c = search needs
 
 loop-again : tie.Need-loop-again Inv-loop μ-loop
 loop-again c =
-    let a = c .before .before .before .before .before .before .before .before .before .args in
-    let l = c .before .before .before .before .before .loop in
-    let z = c .before .before .name-size .ensures in
+    let a = c .before .before .before .before .before .before .before .before .before .before .args in
+    let l = c .before .before .before .before .before .before .loop in
+    let z = c .before .before .before .name-size .ensures in
     let ids = take (a .kept) (a .scratch .now) in
     let len = length-take-le (a .kept) (a .scratch .now) (omega arith) in
     let g = placing-number (a .post .now) (a .n) (a .at) (l .j) (a .kept) (a .scratch .now) (l .scratch) (omega arith) (omega arith) (l .inv .3) in
@@ -63,7 +63,7 @@ loop-again c =
       search needs,
       omega (arith, z .size, name-bounded (a .post .now) (getD (l .scratch) (l .j) 0)),
       omega (arith, one, names-turn (a .post .now) ids (l .j) (omega arith)),
-      placing-turn (a .post .now) (a .n) (a .at) (l .j) (c .before .before .name-size .result) (a .scratch .now) (l .scratch) _ (omega arith) (l .inv .3) z,
+      placing-turn (a .post .now) (a .n) (a .at) (l .j) (c .before .before .before .name-size .result .size) (a .scratch .now) (l .scratch) _ (omega arith) (l .inv .3) z,
     )
 
 same-length : tie.Need-same-length Inv-loop μ-loop

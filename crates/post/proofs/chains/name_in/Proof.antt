@@ -3,11 +3,8 @@ use Prim.Native.Nat.{_-_}
 use Rattle.post.proofs.Lanes.{slot-inside, chain-name, chain-walk}
 use native.Mathlib.Omega.{arith}
 use borrow.Author.Needs.{needs}
-use Rattle.post.proofs.chains.name_at.Statement.{statement}
-use Rattle.post.proofs.chains.name_at.Tie as tie
-
-chain-of-requires : tie.Need-chain-of-requires
-chain-of-requires c κs = search needs
+use Rattle.post.proofs.chains.name_in.Statement.{statement}
+use Rattle.post.proofs.chains.name_in.Tie as tie
 
 mul-wide : tie.Need-mul-wide
 mul-wide c = search needs
@@ -44,9 +41,8 @@ wide-requires-2 c κs = search needs
 
 in-chain-requires : tie.Need-in-chain-requires
 in-chain-requires c κs =
-    let a = c .before .before .before .before .before .before .before .before .args in
-    let i = c .before .before .before .before .before .chain-of .result in
-    (omega arith, omega (arith, slot-inside (a .post .now) (a .room .now) i (c .before .wide2 .result) (c .before .before .before .before .before .before .before .before .pre) (omega arith) (omega arith)))
+    let a = c .before .before .before .before .before .before .before .args in
+    (omega arith, omega (arith, slot-inside (a .post .now) (a .room .now) (a .i) (c .before .wide2 .result) (c .before .before .before .before .before .before .before .pre .0) (omega arith) (omega arith)))
 
 sub-walk : tie.Need-sub-walk
 sub-walk c = search needs
@@ -56,30 +52,26 @@ walk-requires c κs = search needs
 
 returns : tie.Need-returns
 returns c =
-    let a = c .before .before .before .before .before .before .before .before .before .before .args in
-    let i = c .before .before .before .before .before .before .before .chain-of .result in
+    let a = c .before .before .before .before .before .before .before .before .before .args in
     let j = a .k - c .before .before .before .before .before .wide .result in
-    rw (c .walk .ensures, c .before .in-chain .ensures, c .before .before .before .wide2 .ensures .0) (chain-walk (a .post .now) (a .room .now) i (a .k) j (c .before .before .before .before .before .before .before .before .before .before .pre) (omega arith) (omega arith) (omega arith))
+    rw (c .walk .ensures, c .before .in-chain .ensures, c .before .before .before .wide2 .ensures .0) (chain-walk (a .post .now) (a .room .now) (a .i) (a .k) j (c .before .before .before .before .before .before .before .before .before .pre .0) (omega arith) (omega arith) (omega arith))
 
 in-chain-requires-2 : tie.Need-in-chain-requires-2
 in-chain-requires-2 c κs =
-    let a = c .before .before .before .before .before .before .before .before .args in
-    let i = c .before .before .before .before .before .chain-of .result in
+    let a = c .before .before .before .before .before .before .before .args in
     let j = a .k - c .before .before .before .wide .result in
-    (omega arith, omega (arith, slot-inside (a .post .now) (a .room .now) i j (c .before .before .before .before .before .before .before .before .pre) (omega arith) (omega arith)))
+    (omega arith, omega (arith, slot-inside (a .post .now) (a .room .now) (a .i) j (c .before .before .before .before .before .before .before .pre .0) (omega arith) (omega arith)))
 
 returns-2 : tie.Need-returns-2
 returns-2 c =
-    let a = c .before .before .before .before .before .before .before .before .before .args in
-    let i = c .before .before .before .before .before .before .chain-of .result in
+    let a = c .before .before .before .before .before .before .before .before .args in
     let j = a .k - c .before .before .before .before .wide .result in
-    rw (c .in-chain2 .ensures) (chain-name (a .post .now) (a .room .now) i (a .k) j (c .before .before .before .before .before .before .before .before .before .pre) (omega arith) (omega arith) (omega arith))
+    rw (c .in-chain2 .ensures) (chain-name (a .post .now) (a .room .now) (a .i) (a .k) j (c .before .before .before .before .before .before .before .before .pre .0) (omega arith) (omega arith) (omega arith))
 
-pub name-at-spec : {M : Type 1} → statement M
-name-at-spec =
+pub name-in-spec : {M : Type 1} → statement M
+name-in-spec =
     tie.close
     (tie.spec
-    chain-of-requires
     mul-wide
     add-wide
     mul-wide-2
