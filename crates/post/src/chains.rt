@@ -454,6 +454,15 @@ pub fn name_near(post: &[u8], room: &[u16], chain: usize, k: usize) -> names::Ne
     }
 }
 
+// Where name k stands, with no lookup before it. A function of its own, called from one place: passed on through a call that is not
+// put into its caller, the slices are stored and loaded again, and a lookup by stride took twice as long.
+pub fn name_at(post: &[u8], room: &[u16], k: usize) -> usize
+    requires { ⌜ Chained (now post) (now room) ⌝ }
+    ensures { λ r. ⌜ Stands (now (post .entry)) r k ⌝ }
+{
+    name_in(post, room, chain_of(room, k), k)
+}
+
 // The chain, if it holds name k, or else the last one whose first name isn't behind it.
 fn near(room: &[u16], chain: usize, k: usize) -> usize
     requires { ⌜ (8 ≤ getD (now room) 2 0) × (4 + 4 * getD (now room) 2 0 ≤ length (now room)) × (getD (now room) 6 0 ≡ 0) ⌝ }

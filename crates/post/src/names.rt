@@ -119,7 +119,7 @@ fn name_far(post: &[u8], room: &[u16], k: usize) -> usize
 {
     let s = wide(room[0]);
     if s == 0 {
-        return chains::name_near(post, room, 0, k).place;
+        return chains::name_at(post, room, k);
     }
     name_by_stride(post, room, k, s)
 }

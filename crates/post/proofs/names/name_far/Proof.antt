@@ -10,8 +10,8 @@ shared-slice-read-wide c = search needs
 wide-requires : tie.Need-wide-requires
 wide-requires c κs = search needs
 
-name-near-requires : tie.Need-name-near-requires
-name-near-requires c κs = c .before .before .before .before .before .pre .0 .chained (omega arith)
+name-at-requires : tie.Need-name-at-requires
+name-at-requires c κs = c .before .before .before .before .before .pre .0 .chained (omega arith)
 
 returns : tie.Need-returns
 returns c = search needs
@@ -30,7 +30,7 @@ name-far-spec =
     (tie.spec
     shared-slice-read-wide
     wide-requires
-    name-near-requires
+    name-at-requires
     returns
     name-by-stride-requires
     returns-2)
