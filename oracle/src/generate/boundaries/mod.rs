@@ -15,7 +15,7 @@ pub fn all() -> Vec<Named> {
 /// Fonts of a few kilobytes at most, and outputs too.
 pub fn small() -> Vec<Named> {
     use {directory::*, tables::*};
-    [kinds(), collections(), lengths(), samples(), composites(), names(), posts(), rooms()].concat()
+    [kinds(), collections(), lengths(), samples(), composites(), names(), posts(), long_posts(), rooms()].concat()
 }
 
 /// Small fonts whose file is large: their outlines or strings lie over each other.

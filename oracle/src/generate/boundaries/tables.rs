@@ -165,6 +165,39 @@ pub fn posts() -> Vec<Named> {
     cases
 }
 
+/// Lists of names so long that Pitavele walks along them from four places at once, and one with far more
+/// names than glyphs. The names are as long as letters say, or their bytes look like lengths, so that
+/// walks from guessed places miss each other.
+pub fn long_posts() -> Vec<Named> {
+    let names = |count: usize, first: u8, kinds: usize| -> Vec<Vec<u8>> {
+        let byte = |i: usize| first + (i % kinds) as u8;
+        (0..count).map(|i| (0..1 + i * 7 % 11).map(|k| byte(i + k)).collect()).collect()
+    };
+    let mut empty = names(800, b'a', 26);
+    empty[700] = vec![];
+    let lists = [
+        ("letters", names(800, b'a', 26)),
+        ("low bytes", names(800, 1, 9)),
+        ("names of one byte", vec![vec![b'n']; 2_000]),
+        ("one is empty", empty),
+        ("fewer than asked for", names(600, b'a', 26)),
+    ];
+    let mut cases = vec![];
+    for (what, list) in lists {
+        let table: Vec<u8> = list.iter().flat_map(|name| [vec![name.len() as u8], name.clone()].concat()).collect();
+        let indexes: Vec<_> = (0..900).map(|id| 258 + id * 37 % 800).collect();
+        let build = Build::empty(900).with(b"post", post(&indexes, &table));
+        for (count, step) in [(5, 179), (200, 4), (900, 1)] {
+            let ids: Vec<_> = (0..count).map(|i| (i * step) as u16).collect();
+            cases.push(named(format!("post: long list, {what}, {count} ids"), build.ask(&ids)));
+        }
+    }
+    let indexes: Vec<_> = (0..20).map(|id| 258 + id * 149).collect();
+    let build = Build::empty(20).with(b"post", post(&indexes, &b"\x01n".repeat(3_000)));
+    cases.push(named("post: 3,000 names for 20 glyphs", build.ask(&[19, 3, 7])));
+    cases
+}
+
 pub fn rooms() -> Vec<Named> {
     let rooms = [Room::Empty, Room::OneShort, Room::Exact, Room::Larger(1), Room::Larger(100)];
     let font = Build::outlines(&[simple(3), composite(&[(2, 2)], 0), simple(5)]);
