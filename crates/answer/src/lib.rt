@@ -1,4 +1,5 @@
 // What the functions answer: types only. specs/ says what each answer is in document 01's numbers.
+#![tactic(auto)]
 
 // A table was measured: how long its new bytes are, or the refusal.
 #[derive(Drop)]

@@ -12,7 +12,7 @@ use Rattle.model.specs.Res.{Res}
 use Rattle.model.specs.Bytes.{member}
 pub use Rattle.model.specs.Bytes.{Once}
 pub use Rattle.model.specs.Walk.{firsts, walk_t}
-use Rattle.model.specs.Walk.{going, refused, numbered, full, run, seed, begin, ended, most}
+use Rattle.model.specs.Walk.{going, refused, numbered, full, run, seed, begin, most}
 use Rattle.model.proofs.Members.{In, by, clash, in_here, in_there, in_cons, in_one, in_eq, in_left, in_append, in_numbered_self, numbered-cases, numbered_in, numbered-new}
 use Rattle.model.proofs.Thin.{run_t, Done, clean, without, Inside, Inv, Same, Alike, both_end, sim, bar_none, weight-none, widths}
 

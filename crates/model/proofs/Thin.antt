@@ -92,7 +92,7 @@ bar_move o r rd r' rd' seen seen' (g ∷ st) hr hs hd b =
     above x (inr k) = inr (in_there x g seen' k)
 
     more : (x : ℕ) → In x (g ∷ seen) → In x r' ⊎ In x (g ∷ seen')
-    more x k = ⊎_elim (λ e. inr (rw e (in_here g seen'))) (λ m. above x (hs x m)) (in_cons x g seen k)
+    more x k = ⊎_elim (λ e. inr (let P : ℕ → Type 0 = λ y. In y (g ∷ seen') in subst P (sym e) (in_here g seen'))) (λ m. above x (hs x m)) (in_cons x g seen k)
 
     wide : (x : ℕ) → In x rd' → In x rd ⊎ ((c : ℕ) → In c (ids (o x)) → In c r' ⊎ In c (g ∷ seen'))
     wide x m = ⊎_elim inl (λ f. inr (λ c k. above c (f c k))) (hd x m)

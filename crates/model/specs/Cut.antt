@@ -1,7 +1,7 @@
 -- Steps 5 to 8: from the tables and the requests to the roster and the new tables.
 use Rattle.std.proofs.Math.Option.{Option, none, some}
 use Rattle.std.specs.Prelude.{List, ◌++◌, ℕ, ◌+◌, ◌*◌, length, drop}
-use Rattle.model.specs.Res.{Res, refuse, ok, each, map_res, ◌>>=◌, ◌>>◌}
+use Rattle.model.specs.Res.{Res, ok, each, map_res, ◌>>=◌}
 use Rattle.model.specs.Bytes.{Bytes, be16, be32, place}
 use Rattle.model.specs.Font.{Tables}
 use Rattle.model.specs.Outline.{Outline, outline, components, renumber, written}

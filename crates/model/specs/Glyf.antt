@@ -1,6 +1,6 @@
 -- glyf, loca and head. The width of a loca entry is a parameter: nothing is said twice for 2 and 4 bytes.
 use Rattle.std.specs.Prelude.{Bool, true, false, List, [], ◌∷◌, ◌++◌, map, ℕ, suc, ◌+◌, ◌*◌, ◌-◌, ◌/◌, min, leb, eqb, length, drop}
-use Rattle.model.specs.Res.{Res, ok, pick, need, ◌>>=◌, ◌>>◌}
+use Rattle.model.specs.Res.{Res, ok, pick, need, ◌>>◌}
 use Rattle.model.specs.Bytes.{Bytes, word16, word32, be16, be32, part, put, pad2, sum, concat}
 
 pub data Width : Type 0 where

@@ -1,6 +1,6 @@
 -- Step 6, hmtx and hhea.
 use Rattle.std.specs.Prelude.{List, [], ◌∷◌, ◌++◌, ℕ, suc, ◌+◌, ◌*◌, ◌-◌, ltb, eqb, length, take, drop}
-use Rattle.model.specs.Res.{Res, ok, pick, need, each, ◌>>=◌, ◌>>◌}
+use Rattle.model.specs.Res.{Res, ok, pick, need, each, ◌>>◌}
 use Rattle.model.specs.Bytes.{Bytes, word16, be16, holds, all}
 
 -- advance and bearing

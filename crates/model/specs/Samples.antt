@@ -1,5 +1,5 @@
 -- "Bench samples (starred: proved together, as one statement over their table)", and "Slips we have seen or nearly made".
-use Rattle.std.specs.Prelude.{◌≡◌, Bool, true, false, List, [], ◌∷◌, ◌++◌, map, ℕ, ◌+◌, ◌*◌, ◌-◌, T, eqb, length, take, replicate}
+use Rattle.std.specs.Prelude.{◌≡◌, Bool, true, false, List, [], ◌∷◌, ◌++◌, map, ℕ, ◌*◌, ◌-◌, T, eqb, length, take, replicate}
 use Rattle.std.proofs.Math.Option.{none}
 use Rattle.model.specs.Res.{Res, refuse, ok, pick, both, map_res}
 use Rattle.model.specs.Bytes.{Bytes, be16, all, concat, same_bytes}

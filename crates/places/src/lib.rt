@@ -1,5 +1,6 @@
 // Where the eleven tables stand: types only. The crate's growing list of records is here one struct by value with an array of
 // eleven places in tag order, missing ones marked; every rewriter gets it. A tag is four bytes, compared as an array.
+#![tactic(auto)]
 
 // Where a table stands in the file.
 #[derive(Drop)]

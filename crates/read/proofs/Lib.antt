@@ -1,2 +1,0 @@
-pub mod Loans
-pub mod Skipping

@@ -1,5 +1,7 @@
 // Reading: big-endian numbers at a place in a slice, parts, and the word sum (the crate's read.rs, and checksum of its lib.rs).
 // A place number stands beside the slice; whoever calls has tested that what is read is there (`holds`). `reader` holds the two together.
+#![tactic(auto)]
+
 pub mod reader;
 
 ghost use Rattle.std.specs.Prelude.{◌≡◌, ◌+◌, ◌*◌, ◌/◌, ◌%◌, ◌<◌, ◌≤◌, length, drop, nat_le, slice_index};

@@ -9,7 +9,6 @@ use borrow.Author.Tests.{le-leb, lt-leb}
 use Rattle.model.specs.Res.{Res, refuse, ok, pick, ◌>>=◌}
 use Rattle.model.specs.Bytes.{Bytes, over}
 use Rattle.model.specs.Font.{Tables}
-use Rattle.model.specs.File.{file}
 use Rattle.model.specs.Cut.{count}
 use Rattle.model.specs.Call.{Input, Answer, Made, answer, out_from, out_after, places_from, scratch_from, scratch_after, ready, made, delivered, last}
 use Rattle.model.proofs.Res.{bind_ok}

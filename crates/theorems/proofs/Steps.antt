@@ -213,9 +213,9 @@ each-says {A} f (x ∷ xs) k e =
     F : Type 0
     F = (x' : A) × Among x' (x ∷ xs) × (f x' ≡ refuse k)
 
-each-given : {A B : Type 0} (f : A → Res B) (j : ℕ) → ((y : A) (k : ℕ) → f y ≡ refuse k → k ≡ j) → (xs : List A) (x : A) → Among x xs → f x ≡ refuse j → each f xs ≡ refuse j
-each-given f j only _ x (here xs) e = bind_stop (f x) _ j e
-each-given {A} {B} f j only _ x (there y xs a) e = go (f y) refl (each-given f j only xs x a e)
+each-given : {A B : Type 0} (f : A → Res B) (j : ℕ) → ((y : A) (k : ℕ) → f y ≡ refuse k → k ≡ j) → (x : A) (xs : List A) → Among x xs → f x ≡ refuse j → each f xs ≡ refuse j
+each-given f j only x _ (here xs) e = bind_stop (f x) _ j e
+each-given {A} {B} f j only x _ (there y xs a) e = go (f y) refl (each-given f j only x xs a e)
   where
     go : (m : Res B) → f y ≡ m → each f xs ≡ refuse j → (m >>= λ y. each f xs >>= λ ys. ok (y ∷ ys)) ≡ refuse j
     go (refuse k) q ih = ap refuse (only y k q)
@@ -271,7 +271,7 @@ metrics_exactly hhea hmtx r = record { says = says; given = given }
     given _ (last_out p l) = need-ok _ _ _ (lt-ltb 0 c p) (stop 3 (holds hmtx (4 * (c - 1)) 2) _ (lt-leb (4 * (c - 1) + 2) (length hmtx) l))
     given _ (glyph_out g p a o) =
         need-ok _ _ _ (lt-ltb 0 c p)
-        (same 3 (holds hmtx (4 * (c - 1)) 2) _ (each-given (metric hmtx c) 3 (λ y k q. (metric-says hmtx c y k q).0) r g a (metric-given hmtx c g o)))
+        (same 3 (holds hmtx (4 * (c - 1)) 2) _ (each-given (metric hmtx c) 3 (λ y k q. (metric-says hmtx c y k q).0) g r a (metric-given hmtx c g o)))
 
 -- 7
 row-says : (storage r : Bytes) (k : ℕ) → name_entry storage r ≡ refuse k
@@ -340,7 +340,7 @@ module _ (b : Bytes) where
       (need-ok _ _ _ (le-leb 6 (length b) (omega arith))
       (need-ok _ _ _ (le-leb (6 + 12 * word16 b 2) (length b) h₁)
       (need-ok _ _ _ (le-leb (word16 b 4) (length b) h₂)
-      (each-given (name_entry (drop (word16 b 4) b)) 4 (λ y k q. (row-says (drop (word16 b 4) b) y k q).0) _ r a (row-given (drop (word16 b 4) b) r o))))))
+      (each-given (name_entry (drop (word16 b 4) b)) 4 (λ y k q. (row-says (drop (word16 b 4) b) y k q).0) r _ a (row-given (drop (word16 b 4) b) r o))))))
   name-given _ (storage_full es l v is (inl h)) =
       version_0 l v 5 (bind_ok _ _ is (stop 5 (leb (length (concat (store [] es))) 65535) _ (lt-leb (length (concat (store [] es))) 65535 h)))
   name-given _ (storage_full es l v is (inr h)) =
@@ -399,7 +399,7 @@ module _ (b : Bytes) (roster : List ℕ) where
       (same 3 (holds b 0 34) _
       (same 3 (holds b 34 (2 * word16 b 32)) _
       (bind_stop (each (post_index b) roster) _ 3
-      (each-given (post_index b) 3 (λ y k q. (index-says y k q).0) roster g a (stop 3 (ltb g (word16 b 32)) _ (le-ltb g (word16 b 32) h))))))
+      (each-given (post_index b) 3 (λ y k q. (index-says y k q).0) g roster a (stop 3 (ltb g (word16 b 32)) _ (le-ltb g (word16 b 32) h))))))
   post-given _ (index_over is v h i o) =
       version_2 (omega arith) v 5
       (need-ok _ _ _ (le-leb 34 (length b) (omega arith))

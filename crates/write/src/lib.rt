@@ -1,5 +1,7 @@
 // Writing: big-endian numbers, copies and zeros at a place of a lent slice (the crate's write.rs).
 // Each leaves the bytes it wrote in the place of as many old ones, and the rest as it was.
+#![tactic(auto)]
+
 ghost use Rattle.std.specs.Prelude.{◌≡◌, ◌+◌, ◌≤◌, length, replicate};
 ghost use Rattle.model.specs.Bytes.{be16, be32, part, put};
 

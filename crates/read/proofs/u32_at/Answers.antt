@@ -1,8 +1,7 @@
 -- A number put together from its bytes, the last the highest, and turned round, is the big-endian word.
-use Rattle.std.proofs.Common.{◌≡◌, ℕ, ◌+◌, ◌*◌, ◌/◌, ◌%◌, ◌<◌, List, get_or, ap, ◌∙◌, arith, rules}
+use Rattle.std.proofs.Common.{◌≡◌, ℕ, ◌+◌, ◌*◌, ◌/◌, ◌%◌, ◌<◌, List, get_or, ap, ◌∙◌, arith}
 use Rattle.model.specs.Bytes.{word32}
-use Rattle.read.proofs.u32_at.Statement.{statement}
-use Rattle.read.proofs.u32_at.Tie as tie
+use Rattle.read.proofs.u32_at.Goals as goal
 
 -- the four digits of a number in base 256
 module _ (a b c d : ℕ) (ha : a < 256) (hb : b < 256) (hc : c < 256) (hd : d < 256) where
@@ -28,17 +27,11 @@ word s at = let e : get_or s (at + 2 + 1) 0 ≡ get_or s (at + 3) 0 = ap (λ (k 
     three : (at : ℕ) → at + 2 + 1 ≡ at + 3
     three at = omega arith
 
-le32-requires : tie.Need-le32-requires
-le32-requires c κs = search rules
-
-swap32-requires : tie.Need-swap32-requires
-swap32-requires c κs = search rules
-
-returns : tie.Need-returns
+pub returns : goal.returns
 returns c =
-    let at = c.before.before.before.args.at in
-    let s = c.before.before.before.args.b.now in
-    let byte = c.before.before.shared-slice-known.given in
+    let at = c.args.at in
+    let s = c.args.b.now in
+    let byte = c.shared_slice_known-1.given in
     swapped (get_or s at 0) (get_or s (at + 1) 0) (get_or s (at + 2) 0) (get_or s (at + 3) 0)
     (omega (arith, byte at))
     (omega (arith, byte (at + 1)))
@@ -46,9 +39,6 @@ returns c =
     (omega (arith, byte (at + 3)))
     _
     _
-    c.before.le32.ensures
+    c.le32.ensures
     c.swap32.ensures
     ∙ word s at
-
-pub u32-at-spec : {M : Type 1} → statement M
-u32-at-spec = tie.close (tie.spec le32-requires swap32-requires returns)
