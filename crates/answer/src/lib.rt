@@ -2,14 +2,14 @@
 #![tactic(auto)]
 
 // A table was measured: how long its new bytes are, or the refusal.
-#[derive(Drop)]
+#[derive(Clone, Copy)]
 pub enum Size {
     Bytes(usize),
     No(u32),
 }
 
 // The public call's answer: a font of so many glyphs and bytes; a refusal; or the length that the output lacks (refusal 6).
-#[derive(Drop)]
+#[derive(Clone, Copy)]
 pub enum Answer {
     Font { kept: usize, length: usize },
     No(u32),

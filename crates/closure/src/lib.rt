@@ -17,7 +17,7 @@ use outline::{Component, Shape, Span};
 use remapper::Count;
 
 // So many glyphs are kept, their outlines' lengths together (odd ones raised by 1, and as they are), or the refusal.
-#[derive(Drop)]
+#[derive(Clone, Copy)]
 pub enum Closed {
     Kept {
         kept: usize,
@@ -28,7 +28,7 @@ pub enum Closed {
 }
 
 // An outline was read, and so many bytes of it are kept; or it is unreadable.
-#[derive(Drop)]
+#[derive(Clone, Copy)]
 enum Read {
     Kept(usize),
     Bad,
@@ -36,7 +36,7 @@ enum Read {
 
 // A turn of the walk: it goes on, with so many numbered, so many requests left to read and so many bytes kept of the outline
 // that it read; it has ended; or the refusal.
-#[derive(Drop)]
+#[derive(Clone, Copy)]
 enum Step {
     On(usize, usize, usize),
     End,

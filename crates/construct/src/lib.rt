@@ -10,7 +10,7 @@ ghost use Rattle.construct.specs.Construct.{searched, raised, count_to, laid_out
 use places::{Place, Tables};
 
 // Where the new tables stand, how many there are, and the file's length.
-#[derive(Drop)]
+#[derive(Clone, Copy)]
 pub struct Layout {
     pub tables: Tables,
     pub count: usize,
@@ -18,7 +18,7 @@ pub struct Layout {
 }
 
 // What a binary search of the records needs.
-#[derive(Drop)]
+#[derive(Clone, Copy)]
 struct Search {
     selector: usize,
     range: usize,

@@ -10,13 +10,13 @@ ghost use Rattle.face.specs.Opening.{start_of, row_place, noted_row, noted_rows,
 use places::{Place, TAGS, Tables};
 
 // The tables, or the refusal (0: none).
-#[derive(Drop)]
+#[derive(Clone, Copy)]
 pub struct Face {
     pub refusal: u32,
     pub tables: Tables,
 }
 
-#[derive(Drop)]
+#[derive(Clone, Copy)]
 pub enum Start {
     At(usize),
     No(u32),

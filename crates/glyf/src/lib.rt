@@ -14,7 +14,7 @@ use outline::{Component, Shape, Span};
 
 // Outlines that stand side by side in the old glyf and in the new one, to be copied together: `size` bytes from `from`, whose place
 // in the new glyf ends at `end`.
-#[derive(Drop)]
+#[derive(Clone, Copy)]
 struct Run {
     from: usize,
     size: usize,

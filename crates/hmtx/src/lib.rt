@@ -9,7 +9,7 @@ ghost use Rattle.hmtx.specs.Places.{advance_place, bearing_place, metric_at, met
 ghost use Rattle.hmtx.specs.Measures.{measured_of, sizes, counted, metrics_of};
 
 // Step 6's answer: a refusal, or the new count and the new hmtx's length.
-#[derive(Drop)]
+#[derive(Clone, Copy)]
 pub enum Measured {
     No(u32),
     Sized { count: usize, size: usize },

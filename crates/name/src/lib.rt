@@ -14,21 +14,21 @@ ghost use Rattle.name.specs.Rows.{counted_of, place_of, kept_at, inside_at, stri
 ghost use Rattle.name.specs.Hashed.{eight_at};
 
 // How many records are kept, or the refusal.
-#[derive(Drop)]
+#[derive(Clone, Copy)]
 enum Counted {
     Records(usize),
     No(u32),
 }
 
 // The number of the first use that has an equal string, or the place of a new string in the order.
-#[derive(Drop)]
+#[derive(Clone, Copy)]
 enum Found {
     At(usize),
     Nowhere(usize),
 }
 
 // The number of the first use that has an equal string, that there is none, or that the links were too many to tell.
-#[derive(Drop)]
+#[derive(Clone, Copy)]
 enum Link {
     Same(usize),
     New,
@@ -36,7 +36,7 @@ enum Link {
 }
 
 // One more string was noted: the first uses and their bytes so far, the string's offset, and whether the first uses are in order now.
-#[derive(Drop)]
+#[derive(Clone, Copy)]
 struct Noted {
     used: usize,
     end: usize,
@@ -45,7 +45,7 @@ struct Noted {
 }
 
 // The records are written: how many, and of how many first uses the rows are noted.
-#[derive(Drop)]
+#[derive(Clone, Copy)]
 struct Written {
     kept: usize,
     used: usize,

@@ -9,7 +9,7 @@ use lib.ListN.{length, drop}
 use borrow.Author.Tests.{lt-ltb, le-ltb, le-leb, lt-leb, eq-eqb, ne_eqb, leb-true, leb-false}
 use Rattle.model.specs.Res.{pick}
 use Rattle.model.specs.Bytes.{Bytes, word16, word32, flag, holds}
-use Rattle.model.specs.Glyf.{width, Width, short, long, entry, entry_size}
+use Rattle.model.specs.Glyf.{Width, short, long, entry, entry_size}
 use Rattle.model.specs.Outline.{record_size}
 use Rattle.model.proofs.Bytes.{word16-drop, word32-drop}
 use Rattle.outline.specs.Places.{span_at, shape_of, component_at}

@@ -1,5 +1,7 @@
 // Outline: where a glyph's bytes stand, what they are, and a composite's component records (document 01, "The walk": Outline;
 // the crate's glyf.rs). Nothing here is written; whoever closes over components or copies outlines goes by these functions.
+#![tactic(auto)]
+
 ghost use Rattle.std.specs.Prelude.{◌≡◌, ◌+◌, ◌*◌, ◌≤◌, ◌<◌, length};
 ghost use Rattle.model.specs.Res.{pick, value_of};
 ghost use Rattle.model.specs.Bytes.{flag};
@@ -8,14 +10,14 @@ ghost use Rattle.model.specs.Glyf.{width, entry, entry_size};
 ghost use Rattle.outline.specs.Places.{span_at, shape_of, component_at, end_from, kept_length};
 
 // A glyph's bytes in glyf: the start and the end. Offsets past glyf or descending are Bad.
-#[derive(Drop)]
+#[derive(Clone, Copy)]
 pub enum Span {
     At(usize, usize),
     Bad,
 }
 
 // What the bytes are. One byte, or a composite whose header is cut, is Bad.
-#[derive(Drop)]
+#[derive(Clone, Copy)]
 pub enum Shape {
     Empty,
     Simple,
@@ -25,7 +27,7 @@ pub enum Shape {
 
 // A component record: its id and the place behind it; the last one says too whether the bytes behind it are kept.
 // A cut record, or an id without a glyph, is Bad.
-#[derive(Drop)]
+#[derive(Clone, Copy)]
 pub enum Component {
     More(usize, usize),
     Last(usize, usize, bool),

@@ -6,7 +6,7 @@ ghost use Rattle.pitavele_c.specs.Reports.{reported};
 
 // Refusal 0 is success: `count` glyphs in a file of `length` bytes. With refusal 6 `length` is the length needed.
 #[repr(C)]
-#[derive(Drop)]
+#[derive(Clone, Copy)]
 pub struct Answer {
     pub refusal: u32,
     pub count: u32,

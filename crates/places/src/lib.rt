@@ -3,7 +3,7 @@
 #![tactic(auto)]
 
 // Where a table stands in the file.
-#[derive(Drop)]
+#[derive(Clone, Copy)]
 pub struct Place {
     pub offset: usize,
     pub length: usize,
@@ -11,7 +11,7 @@ pub struct Place {
 }
 
 // The places of the eleven tables, in tag order.
-#[derive(Drop)]
+#[derive(Clone, Copy)]
 pub struct Tables {
     pub places: [Place; 11],
 }

@@ -16,7 +16,7 @@ use hmtx::Measured;
 use places::{Place, Tables};
 
 // What the walk and the measures are lent of a font: the tables' places, whether its loca is long, and document 01's n.
-#[derive(Drop)]
+#[derive(Clone, Copy)]
 pub struct Source {
     pub tables: Tables,
     pub long: bool,
@@ -24,7 +24,7 @@ pub struct Source {
 }
 
 // The kept outlines' lengths together, as the walk added them up: odd ones raised by 1, and as they are.
-#[derive(Drop)]
+#[derive(Clone, Copy)]
 pub struct Sums {
     pub even: usize,
     pub raw: usize,
@@ -32,7 +32,7 @@ pub struct Sums {
 
 // What the measures found: whether all pass, or the refusal; the new count of long metrics; whether the new loca is long; the
 // places with each table's new length.
-#[derive(Drop)]
+#[derive(Clone, Copy)]
 pub struct Plan {
     pub fits: bool,
     pub refusal: u32,

@@ -10,14 +10,14 @@ ghost use Rattle.post.specs.Chains.{Chain, Stepped, Spaced, Four, Ran, Went, Joi
 use crate::names;
 
 // A walk: where it is, and how many names it has passed.
-#[derive(Drop)]
+#[derive(Clone, Copy)]
 struct Lane {
     p: usize,
     n: usize,
 }
 
 // Where four walks start, and where the last one may stop.
-#[derive(Drop)]
+#[derive(Clone, Copy)]
 struct Starts {
     a: usize,
     b: usize,
@@ -27,7 +27,7 @@ struct Starts {
 }
 
 // Four walks. None has passed more names than there were turns.
-#[derive(Drop)]
+#[derive(Clone, Copy)]
 struct Lanes {
     a: Lane,
     b: Lane,
@@ -37,7 +37,7 @@ struct Lanes {
 }
 
 // Four walks have missed each other, or came together to this place, the name of this number.
-#[derive(Drop)]
+#[derive(Clone, Copy)]
 enum Reached {
     Missed,
     To(usize, usize),

@@ -17,14 +17,14 @@ ghost use Rattle.post.specs.Found.{places_at, index_for, PutAway, Sized, Placing
 
 // The kept glyphs looked through: one has no index; or how many names will be stored, and how many at the start of the
 // old list hold all that are asked for.
-#[derive(Drop)]
+#[derive(Clone, Copy)]
 enum Asked {
     Missing,
     Names(usize, usize),
 }
 
 // The tests' outcome: a refusal, a table to copy, or one to cut.
-#[derive(Drop)]
+#[derive(Clone, Copy)]
 enum Tested {
     No(u32),
     Copied,
@@ -32,7 +32,7 @@ enum Tested {
 }
 
 // A name was found: the bytes it takes, and the chain that holds its place.
-#[derive(Drop)]
+#[derive(Clone, Copy)]
 struct Name {
     size: usize,
     chain: usize,

@@ -8,7 +8,7 @@ ghost use Rattle.post.specs.Post.{size_at, walked, Stands, place_in, with_place,
 use crate::chains;
 
 // Where a name stands, and in which chain it was found.
-#[derive(Drop)]
+#[derive(Clone, Copy)]
 pub struct Near {
     pub place: usize,
     pub chain: usize,

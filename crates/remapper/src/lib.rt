@@ -8,7 +8,7 @@ ghost use Rattle.remapper.specs.Scratch.{link, relinked, next, Linked, Sparse, S
 ghost use Rattle.remapper.specs.State.{Numbering, Asked};
 
 // How many glyphs have a number, or the refusal.
-#[derive(Drop)]
+#[derive(Clone, Copy)]
 pub enum Count {
     Of(usize),
     No(u32),

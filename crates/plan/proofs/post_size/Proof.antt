@@ -1,7 +1,7 @@
 -- By whether the table is there.
 use native.Mathlib.Omega.{arith}
 use lib.Dec.{lit<}
-use borrow.Author.Tests.{not_true, not_false}
+use borrow.Author.Tests.{not-true, not-false}
 use Rattle.face.proofs.Gather.{length-content}
 use Rattle.plan.proofs.Rostered.{some, few, fewer, most}
 use Rattle.plan.proofs.Planning.{post-absent, post-present}
@@ -13,7 +13,7 @@ element-copy-out-p : tie.Need-element-copy-out-p
 element-copy-out-p c = search rules
 
 returns : tie.Need-returns
-returns c = let a = c.before.before.before.before.before.before.args in post-absent a.font.now a.s.tables a.s.n a.kept a.scratch.now (not_true _ c.if1.true)
+returns c = let a = c.before.before.before.before.before.before.args in post-absent a.font.now a.s.tables a.s.n a.kept a.scratch.now (not-true _ c.if1.true)
 
 table-requires : tie.Need-table-requires
 table-requires c κs = search rules
@@ -34,7 +34,7 @@ same_length c = search rules
 returns-2 : tie.Need-returns-2
 returns-2 c =
     let a = c.before.before.before.before.before.before.before.before.before.before.before.args in
-    post-present a.font.now a.s.tables a.s.n a.kept a.scratch.now _ _ _ (not_false _ c.before.before.before.before.before.if1.false) c.before.before.before.before.table.ensures c.before.before.measure.ensures
+    post-present a.font.now a.s.tables a.s.n a.kept a.scratch.now _ _ _ (not-false _ c.before.before.before.before.before.if1.false) c.before.before.before.before.table.ensures c.before.before.measure.ensures
 
 pub post-size-spec : {M : Type 1} → statement M
 post-size-spec =

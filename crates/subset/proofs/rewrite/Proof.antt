@@ -4,7 +4,7 @@ use mathlib.Core.List.{List}
 use Prim.Native.Nat.{ℕ}
 use native.Mathlib.Omega.{arith}
 use lib.ListN.{take}
-use borrow.Author.Tests.{not_true, not_false}
+use borrow.Author.Tests.{not-true, not-false}
 use Rattle.model.specs.Bytes.{over}
 use Rattle.model.specs.File.{entries, file}
 use Rattle.construct.specs.declared.Layout.{Layout}
@@ -35,7 +35,7 @@ returns c =
     let v = c.before.before.before.before.measure.ensures in
     let p = c.before.before.before.before.measure.result in
     let z = c.before.before.before.before.measure.new.1.1.1.1.0 in
-    rewrite-refused T a.s.n a.kept a.scratch.now z a.out.now p v (not_true p.fits c.if1.true)
+    rewrite-refused T a.s.n a.kept a.scratch.now z a.out.now p v (not-true p.fits c.if1.true)
 
 narrow-requires : tie.Need-narrow-requires
 narrow-requires c κs = search rules
@@ -52,14 +52,14 @@ returns-2 c =
     let v = c.before.before.before.before.before.before.measure.ensures in
     let p = c.before.before.before.before.before.before.measure.result in
     let z = c.before.before.before.before.before.before.measure.new.1.1.1.1.0 in
-    let f = not_false p.fits c.before.before.if1.false in
+    let f = not-false p.fits c.before.before.if1.false in
     let pieces = pieces-fine a.font.now a.s a.scratch.now a.kept o w in
-    let n = c.before.narrow.ensures.one (not_true c.before.narrow.result c.if2.true) in
+    let n = c.before.narrow.ensures.one (not-true c.before.narrow.result c.if2.true) in
     rewrite-long T a.s.n a.kept a.scratch.now z a.out.now p v f pieces (omega (arith, file-holds T (take a.kept a.scratch.now) p (v.found f) o.long.head n.0 n.1, n.2))
 
 lay-out-requires : tie.Need-lay-out-requires
 lay-out-requires c κs =
-    let n = c.before.narrow.ensures.all (not_false c.before.narrow.result c.if2.false) in
+    let n = c.before.narrow.ensures.all (not-false c.before.narrow.result c.if2.false) in
     λ k h. omega (arith, n k h)
 
 same-length-3 : tie.Need-same-length-3
@@ -74,7 +74,7 @@ returns-3 c =
     let v = c.before.before.before.before.before.before.before.before.measure.ensures in
     let p = c.before.before.before.before.before.before.before.before.measure.result in
     let z = c.before.before.before.before.before.before.before.before.measure.new.1.1.1.1.0 in
-    let f = not_false p.fits c.before.before.before.before.if1.false in
+    let f = not-false p.fits c.before.before.before.before.if1.false in
     let pieces = pieces-fine a.font.now a.s a.scratch.now a.kept o w in
     let e = c.before.lay-out.ensures in
     let l = file-length T (take a.kept a.scratch.now) p (v.found f) o.long.head ∙ ap (λ (x : Layout). x.end) (sym e) in
@@ -92,7 +92,7 @@ returns-4 c =
     let v = c.before.before.before.before.before.before.before.before.before.measure.ensures in
     let p = c.before.before.before.before.before.before.before.before.before.measure.result in
     let z = c.before.before.before.before.before.before.before.before.before.measure.new.1.1.1.1.0 in
-    let f = not_false p.fits c.before.before.before.before.before.if1.false in
+    let f = not-false p.fits c.before.before.before.before.before.if1.false in
     let pieces = pieces-fine a.font.now a.s a.scratch.now a.kept o w in
     let e = c.before.before.lay-out.ensures in
     let l = file-length T (take a.kept a.scratch.now) p (v.found f) o.long.head ∙ ap (λ (x : Layout). x.end) (sym e) in
@@ -107,7 +107,7 @@ write-file-requires c κs =
     let v = c.before.before.before.before.before.before.before.before.before.before.before.measure.ensures in
     let p = c.before.before.before.before.before.before.before.before.before.before.before.measure.result in
     let z = c.before.before.before.before.before.before.before.before.before.before.before.measure.new.1.1.1.1.0 in
-    let f = not_false p.fits c.before.before.before.before.before.before.before.if1.false in
+    let f = not-false p.fits c.before.before.before.before.before.before.before.if1.false in
     (writes_from a.font.now a.s a.scratch.now a.kept o w z p v f _ c.before.before.before.before.lay-out.ensures c.before.before.before.if3.false, c.before.before.if4.false)
 
 same-length-5 : tie.Need-same-length-5
@@ -125,7 +125,7 @@ returns-5 c =
     let v = c.before.before.before.before.before.before.before.before.before.before.before.before.before.before.measure.ensures in
     let p = c.before.before.before.before.before.before.before.before.before.before.before.before.before.before.measure.result in
     let z = c.before.before.before.before.before.before.before.before.before.before.before.before.before.before.measure.new.1.1.1.1.0 in
-    let f = not_false p.fits c.before.before.before.before.before.before.before.before.before.before.if1.false in
+    let f = not-false p.fits c.before.before.before.before.before.before.before.before.before.before.if1.false in
     let pieces = pieces-fine a.font.now a.s a.scratch.now a.kept o w in
     let e = c.before.before.before.before.before.before.before.lay-out.ensures in
     let l = file-length T (take a.kept a.scratch.now) p (v.found f) o.long.head ∙ ap (λ (x : Layout). x.end) (sym e) in

@@ -1,0 +1,10 @@
+-- Equal numbers of eight bytes are eight equal bytes more, four times a turn.
+use Rattle.std.proofs.Common.{◌-◌}
+use Rattle.name.specs.Rows.{Alike}
+use Rattle.name.proofs.alike_blocks.Given as goal
+
+abbrev pub invariant-loop-k : goal.invariant-loop-k
+invariant-loop-k l = Alike l.name l.at l.start l.size l.k
+
+abbrev pub decreases-loop-k : goal.decreases-loop-k
+decreases-loop-k l = l.size - l.k

@@ -1,0 +1,42 @@
+use Rattle.std.proofs.Common.{◌-◌, ⊎_elim, arith}
+use Rattle.name.proofs.Order.{halved, turn-shorter, turn-longer, turn-lesser, turn-greater, turn-equal, sought-at}
+use Rattle.name.proofs.find_earlier.Goals as goal
+
+pub earlier-preserved-then-length-size : goal.earlier-preserved-then-length-size
+earlier-preserved-then-length-size c =
+    let r = c in
+    let l = c.earlier in
+    let h = halved l.low l.high c.earlier-test.true in
+    turn-shorter r.args.name.now r.args.firsts.now r.args.order.now r.args.used r.args.row r.requires l.low l.high l.invariant _ h.0 h.1 c.length_at-length.result c.length_at-size.result c.length_at-length.ensures.0 c.length_at-size.ensures.0 c.if-length-size.true
+
+pub earlier-preserved-then-size-length : goal.earlier-preserved-then-size-length
+earlier-preserved-then-size-length c =
+    let r = c in
+    let l = c.earlier in
+    let h = halved l.low l.high c.earlier-test.true in
+    turn-longer r.args.name.now r.args.firsts.now r.args.order.now r.args.used r.args.row r.requires l.low l.high l.invariant _ h.0 h.1 c.length_at-length.result c.length_at-size.result c.length_at-length.ensures.0 c.length_at-size.ensures.0 c.if-size-length.true
+
+pub earlier-preserved-then-name-at : goal.earlier-preserved-then-name-at
+earlier-preserved-then-name-at c =
+    let r = c in
+    let l = c.earlier in
+    let h = halved l.low l.high c.earlier-test.true in
+    rw c.loop-k.invariant.2 (turn-lesser r.args.name.now r.args.firsts.now r.args.order.now r.args.used r.args.row r.requires l.low l.high l.invariant _ h.0 h.1 c.length_at-length.result c.length_at-size.result c.length_at-length.ensures.0 c.length_at-size.ensures.0 (omega arith) c.start_at-at.result c.start_at-start.result c.loop-k.k c.start_at-at.ensures.0 c.start_at-start.ensures.0 c.loop-k.invariant.0 (omega (arith, c.loop-k.invariant.0.within)) c.if-name-at.true)
+
+pub earlier-preserved : goal.earlier-preserved
+earlier-preserved c =
+    let r = c in
+    let l = c.earlier in
+    let h = halved l.low l.high c.earlier-test.true in
+    rw c.loop-k.invariant.1 (turn-greater r.args.name.now r.args.firsts.now r.args.order.now r.args.used r.args.row r.requires l.low l.high l.invariant _ h.0 h.1 c.length_at-length.result c.length_at-size.result c.length_at-length.ensures.0 c.length_at-size.ensures.0 (omega arith) c.start_at-at.result c.start_at-start.result c.loop-k.k c.start_at-at.ensures.0 c.start_at-start.ensures.0 c.loop-k.invariant.0 (omega (arith, c.loop-k.invariant.0.within)) c.if-name-start.true)
+
+pub returns-then-low-high : goal.returns-then-low-high
+returns-then-low-high c =
+    let r = c in
+    let l = c.earlier in
+    ⊎_elim
+    (λ w. absurd (omega arith))
+    (λ w.
+    let h = halved l.low l.high w.0.taken in
+    rw w.12 (sought-at r.args.name.now r.args.firsts.now r.args.order.now r.args.used r.args.row r.requires l.low l.high l.invariant _ h.0 h.1 (turn-equal r.args.name.now r.args.firsts.now r.args.order.now r.args.used r.args.row r.requires l.low l.high l.invariant _ h.0 h.1 w.3.result c.length_at-size.result w.3.ensures.0 c.length_at-size.ensures.0 (omega (arith, w.4.left, w.5.left)) w.6.result c.start_at-start.result w.8.k w.6.ensures.0 c.start_at-start.ensures.0 w.8.inv.0 w.9.taken)))
+    c.earlier-test.branch

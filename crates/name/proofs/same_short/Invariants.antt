@@ -1,0 +1,10 @@
+-- Byte by byte up to the first that differs.
+use Rattle.std.proofs.Common.{◌-◌}
+use Rattle.name.specs.Rows.{Alike}
+use Rattle.name.proofs.same_short.Given as goal
+
+abbrev pub invariant-loop-k : goal.invariant-loop-k
+invariant-loop-k l = Alike l.name l.at l.start l.size l.k
+
+abbrev pub decreases-loop-k : goal.decreases-loop-k
+decreases-loop-k l = l.size - l.k

@@ -1,0 +1,31 @@
+use borrow.Author.Tests.{not-false}
+use Rattle.std.proofs.Common.{◌-◌, sym, ◌∙◌, ⊎_elim, arith, rules}
+use Rattle.name.proofs.Rows.{counting-start, counting_kept, counting-skip, counting-stop}
+use Rattle.name.proofs.Strings.{length-entries}
+use Rattle.name.proofs.test_ranges.Goals as goal
+
+pub loop-i-init : goal.loop-i-init
+loop-i-init c = (search rules, counting-start c.args.name.now)
+
+pub returns-then-not-inside : goal.returns-then-not-inside
+returns-then-not-inside c =
+    let a = c.args in
+    let l = c.loop-i in
+    counting-stop a.name.now c.requires.1 l.i l.n l.invariant.1 a.count c.loop-i-test.true (cc) (sym c.inside.ensures ∙ c.if-not-inside.true)
+
+pub overflow_add-n : goal.overflow_add-n
+overflow_add-n c =
+    let l = c.loop-i in
+    let a = c.args in
+    omega (arith, length-entries a.name.now l.i)
+
+pub loop-i-preserved : goal.loop-i-preserved
+loop-i-preserved c =
+    let l = c.loop-i in
+    let a = c.args in (
+      search rules,
+      ⊎_elim
+          (λ w. rw w.3 (counting_kept a.name.now c.requires.1 l.i l.n l.invariant.1 (sym c.kept.ensures ∙ w.0.taken) (sym w.1.ensures ∙ not-false _ w.2.left)))
+          (λ w. rw w.1 (counting-skip a.name.now c.requires.1 l.i l.n l.invariant.1 (sym c.kept.ensures ∙ w.0.left)))
+          c.if-kept.branch,
+    )
