@@ -1,5 +1,7 @@
 // Steps 1 to 3: the kind, a collection's face, the directory, and where the eleven tables stand (the first half of the crate's lib.rs).
 // A tag is four bytes, compared as an array.
+#![tactic(auto)]
+
 ghost use Rattle.std.specs.Prelude.{◌≡◌, ◌+◌, ◌*◌, ◌≤◌, ◌<◌, ltb, leb, eqb, length};
 ghost use Rattle.model.specs.Res.{both};
 ghost use Rattle.model.specs.Bytes.{word32, place};

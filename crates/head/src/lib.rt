@@ -1,6 +1,8 @@
 // head of the smaller font, and what head says of loca: the width of its entries (the crate's head.rs).
 // Document 01: "Copied; bytes 50 and 51 become 0 and 1 (long) or 0 and 0". Bytes 8 to 11 are left zero:
 // head's own checksum and the file's sum want them so, and crate construct writes the adjustment there at the end.
+#![tactic(auto)]
+
 ghost use Rattle.std.specs.Prelude.{◌≡◌, ◌≤◌, length};
 ghost use Rattle.model.specs.Bytes.{over};
 ghost use Rattle.model.specs.Glyf.{width, width_of, glyphs, new_head};

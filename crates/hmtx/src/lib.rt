@@ -1,6 +1,8 @@
 // hmtx and hhea of the smaller font (the crate's hmtx.rs; its reading was taken from ttf-parser).
 // Step 6 of document 01 measures: it refuses with 5 or 3, or finds the new count of pairs and the new length.
 // Written are "that many pairs of advance and bearing, then the other bearings", and hhea with the new count.
+#![tactic(auto)]
+
 ghost use Rattle.std.specs.Prelude.{◌≡◌, true, ◌+◌, ◌*◌, ◌-◌, ◌≤◌, ◌<◌, length, get_or};
 ghost use Rattle.model.specs.Res.{is_ok, map_res};
 ghost use Rattle.model.specs.Bytes.{over};

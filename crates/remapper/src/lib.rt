@@ -2,6 +2,8 @@
 // Four rows: the roster | new number + 1 by old id, 0: none | previous | next. The links are a ring through glyph 0, which never waits, so that
 // unlinking and inserting have no branch and no top is carried; a glyph that doesn't wait is a ring of its own. A link is stored as its distance
 // from the glyph, modulo 65,536, so that zeros make each glyph a ring of its own: nothing else has to be filled in before the walk.
+#![tactic(auto)]
+
 ghost use Rattle.std.specs.Prelude.{◌≡◌, ℕ, ◌+◌, ◌*◌, ◌-◌, ◌≤◌, ◌<◌, length, get_or, set, replicate};
 ghost use Rattle.model.specs.Bytes.{put};
 ghost use Rattle.remapper.specs.Scratch.{link, relinked, next, Linked, Sparse, Sweepable, unlinked, inserted, moved, offered, given, taken, started};

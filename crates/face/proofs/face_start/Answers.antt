@@ -21,4 +21,4 @@ pub returns-then-not-holds : goal.returns-then-not-holds
 returns-then-not-holds c = let a = c.args in start-short a.font.now a.index (omega arith) (cc) (omega arith) (omega arith) (sym c.holds.ensures ∙ c.if-not-holds.true)
 
 pub returns : goal.returns
-returns c = let a = c.args in c.face_at.ensures ∙ ap (face_at a.font.now) c.u32_at-kind.ensures ∙ start-face a.font.now a.index (omega arith) (cc) (omega arith) (omega arith) (sym c.holds.ensures ∙ c.if-not-holds.false)
+returns c = let a = c.args in c.face_at.ensures ∙ ap (face_at a.font.now) c.u32_at.ensures ∙ start-face a.font.now a.index (omega arith) (cc) (omega arith) (omega arith) (sym c.holds.ensures ∙ c.if-not-holds.false)

@@ -1,7 +1,6 @@
 use mathlib.Core.Path.{sym, ap, ◌∙◌}
 use lib.Dec.{eqb}
 use Rattle.face.proofs.Tags.{tag_word, place-on}
-use Prim.Native.Nat.{◌-◌}
 use Rattle.model.specs.Bytes.{word32}
 use Rattle.places.specs.Places.{tag_words}
 use native.Mathlib.Omega.{arith}

@@ -9,7 +9,7 @@ pub u16_at-requires : goal.u16_at-requires
 u16_at-requires c =
     let a = c.args in
     let p = c.requires in
-    omega (arith, advance_in a.c (get_or a.roster.now a.i 0) (length a.hmtx.now) p.0.some p.0.long (p.0.metrics a.i p.1))
+    omega (arith, advance_in a.c (get_or a.roster.now a.i 0) (length a.hmtx.now) p.room.some p.room.long (p.room.metrics a.i p.i_in_bounds))
 
 pub returns : goal.returns
 unfolding metric_at

@@ -1,6 +1,5 @@
-use Prim.Native.Nat.{◌-◌, ◌≤◌, ◌<◌}
+use Prim.Native.Nat.{◌≤◌, ◌<◌}
 use mathlib.Core.Bool.{true}
-use mathlib.Core.Logic.{⊎_elim}
 use mathlib.Core.Path.{◌≡◌, refl, sym, ◌∙◌}
 use native.Mathlib.Omega.{arith}
 use borrow.Author.Rules.{rules}
@@ -13,6 +12,7 @@ use Rattle.hmtx.proofs.Count.{count-start, count_same, count-new, count_end}
 use Rattle.hmtx.proofs.Written.{metrics_at-get, length-metrics_at}
 use Rattle.hmtx.proofs.Step.{counted-inside, counted-outside}
 use Rattle.hmtx.proofs.count_inside.Goals as goal
+use Rattle.hmtx.proofs.count_inside.Goals.{else-advance-last, then-advance-last}
 
 pub loop-i-init : goal.loop-i-init
 loop-i-init c =
@@ -54,10 +54,7 @@ loop-i-preserved c =
     let ea : c.u16_at-advance.result ≡ (metric_at h a.c g).0 = cc in (
       search rules,
       l.invariant.1 ∙ inside-turn h a.c ids l.i lt (omega arith),
-      ⊎_elim
-          (λ w. rw (w.1, w.2) (count-new ms l.count l.last l.i c.u16_at-advance.result (metric_at h a.c g) l.invariant.2 lt' e ea w.0.taken))
-          (λ w. rw (w.1, w.2) (count_same ms l.count l.last l.i c.u16_at-advance.result (metric_at h a.c g) l.invariant.2 lt' e ea w.0.left))
-          c.if-advance-last.branch,
+      (elim c.if-advance-last.branch [ then-advance-last w ↦ rw (w.count-is, w.last-is) (count-new ms l.count l.last l.i c.u16_at-advance.result (metric_at h a.c g) l.invariant.2 lt' e ea w.if-advance-last.true) | else-advance-last w ↦ rw (w.count-is, w.last-is) (count_same ms l.count l.last l.i c.u16_at-advance.result (metric_at h a.c g) l.invariant.2 lt' e ea w.if-advance-last.false) ]),
     )
 
 pub returns : goal.returns

@@ -22,5 +22,5 @@ returns c =
     let ep : length p ≡ 4 * a.count = simp (length_pairs, length-metrics_at, length-take-le a.count ids (omega arith)) in
     let eq : length q ≡ 2 * (length ids - a.count) = simp (length-bearings, length-metrics_at, length-drop) in
     rw (new_hmtx-parts h a.c a.count ids)
-    (two-parts a.out.now w.new.1.1.1.0 v.new.1.1.1.0 p q (4 * a.count) (length w.new.1.1.1.0 - 4 * a.count)
+    (two-parts a.out.now w.new.out v.new.out p q (4 * a.count) (length w.new.out - 4 * a.count)
     w.ensures ep refl (rw (tail a.count ids) at v.ensures) (omega arith))

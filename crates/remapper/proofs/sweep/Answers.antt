@@ -3,20 +3,10 @@ use mathlib.Core.Logic.{inl}
 use mathlib.Core.Path.{◌≡◌, ◌∙◌, ap}
 use Prim.Native.Nat.{ℕ, ◌+◌, ◌*◌, ◌-◌}
 use native.Mathlib.Omega.{arith}
-use lib.ListN.{length, replicate}
+use lib.ListN.{replicate}
 use Rattle.model.specs.Bytes.{put}
 use Rattle.remapper.proofs.Clears.{sparse_put, zeros-before}
 use Rattle.remapper.proofs.sweep.Goals as goal
-use Rattle.remapper.proofs.sweep.Goals.{After-clear-arg-1}
-
--- the numbers and the links
-rows : (c : After-clear-arg-1) → (c.clear_row.new.s ≡ put c.args.s.now c.args.n (replicate (c.args.n + 2 * c.args.n) 0))
-    × (length c.clear_row.new.s ≡ length c.args.s.now)
-rows c =
-    let a = c.args in
-    let second : 2 * a.n ≡ a.n + a.n = omega arith in
-    zeros-before a.s.now c.clear_links.new.s c.clear_row.new.s a.n a.n (2 * a.n) (omega (arith, c.requires.1))
-    (c.clear_links.ensures ∙ ap (λ (x : ℕ). put a.s.now x (replicate (2 * a.n) 0)) second) c.clear_row.ensures
 
 pub clear_row-requires : goal.clear_row-requires
 clear_row-requires c =
@@ -29,7 +19,10 @@ returns c =
     let a = c.args in
     let pre = c.requires in
     let few = pre.2.numbers.few in
-    let r = rows c in
+    let second : 2 * a.n ≡ a.n + a.n = omega arith in
+    -- the numbers and the links
+    let r = zeros-before a.s.now c.clear_links.new.s c.clear_row.new.s a.n a.n (2 * a.n) (omega (arith, pre.1))
+    (c.clear_links.ensures ∙ ap (λ (x : ℕ). put a.s.now x (replicate (2 * a.n) 0)) second) c.clear_row.ensures in
     let behind : a.n ≡ a.kept + (a.n - a.kept) = omega (arith, few) in
     let all : (a.n - a.kept) + (a.n + 2 * a.n) ≡ 4 * a.n - a.kept = omega (arith, few) in
     (zeros-before a.s.now c.clear_row.new.s _ a.kept (a.n - a.kept) (a.n + 2 * a.n) (omega (arith, few, pre.1))
