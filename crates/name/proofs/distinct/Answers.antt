@@ -1,4 +1,4 @@
-use Rattle.std.proofs.Common.{◌+◌, ◌-◌, sym, ◌∙◌, ⊎_elim, arith, rules}
+use Rattle.std.proofs.Common.{◌+◌, sym, ◌∙◌, arith, rules}
 use Rattle.name.proofs.Strings.{uses-start, arranged_start, uses_skip, bytes-over, bytes-all}
 use Rattle.name.proofs.distinct.Goals.{then-kept+else-end-gt65535, else-kept}
 use Rattle.name.proofs.distinct.Goals as goal
@@ -34,17 +34,17 @@ loop-i-preserved c =
     let r = c in
     let l = c.loop-i in
     elim c.if-kept.branch [
-      then-kept+else-end-gt65535 w ↦
-        rw (w.firsts-is, w.offsets-is, w.links-is, w.heads-is, w.used-is, w.end-is, w.sorted-is) (search rules, omega arith, omega arith, omega arith, omega arith, w.note-noted.ensures.0, w.note-noted.ensures.1, w.if-end-gt65535.false)
-    | else-kept w ↦
-        rw (w.firsts-is, w.offsets-is, w.links-is, w.heads-is, w.used-is, w.end-is, w.sorted-is) (
-          search rules,
-          l.invariant.1,
-          l.invariant.2,
-          l.invariant.3,
-          l.invariant.4,
-          uses_skip r.args.name.now l.firsts l.offsets l.used l.end l.i (sym c.kept.ensures ∙ w.if-kept.false) l.invariant.5,
-          l.invariant.6,
-          l.invariant.7,
-        )
+      | then-kept+else-end-gt65535 w ↦
+          rw (w.firsts-is, w.offsets-is, w.links-is, w.heads-is, w.used-is, w.end-is, w.sorted-is) (search rules, omega arith, omega arith, omega arith, omega arith, w.note-noted.ensures.0, w.note-noted.ensures.1, w.if-end-gt65535.false)
+      | else-kept w ↦
+          rw (w.firsts-is, w.offsets-is, w.links-is, w.heads-is, w.used-is, w.end-is, w.sorted-is) (
+            search rules,
+            l.invariant.1,
+            l.invariant.2,
+            l.invariant.3,
+            l.invariant.4,
+            uses_skip r.args.name.now l.firsts l.offsets l.used l.end l.i (sym c.kept.ensures ∙ w.if-kept.false) l.invariant.5,
+            l.invariant.6,
+            l.invariant.7,
+          )
     ]

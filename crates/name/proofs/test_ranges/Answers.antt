@@ -1,5 +1,4 @@
-use borrow.Author.Tests.{not-false}
-use Rattle.std.proofs.Common.{◌-◌, sym, ◌∙◌, ⊎_elim, arith, rules}
+use Rattle.std.proofs.Common.{sym, ◌∙◌, arith, rules}
 use Rattle.name.proofs.Rows.{counting-start, counting_kept, counting-skip, counting-stop}
 use Rattle.name.proofs.Strings.{length-entries}
 use Rattle.name.proofs.test_ranges.Goals.{then-kept+else-not-inside, else-kept}
@@ -26,7 +25,7 @@ loop-i-preserved c =
     let a = c.args in (
       search rules,
       elim c.if-kept.branch [
-        then-kept+else-not-inside w ↦ rw w.n-is (counting_kept a.name.now c.requires.1 l.i l.n l.invariant.1 (sym c.kept.ensures ∙ w.if-kept.true) (sym w.inside.ensures ∙ w.if-not-inside.false))
-      | else-kept w ↦ rw w.n-is (counting-skip a.name.now c.requires.1 l.i l.n l.invariant.1 (sym c.kept.ensures ∙ w.if-kept.false))
+        | then-kept+else-not-inside w ↦ rw w.n-is (counting_kept a.name.now c.requires.1 l.i l.n l.invariant.1 (sym c.kept.ensures ∙ w.if-kept.true) (sym w.inside.ensures ∙ w.if-not-inside.false))
+        | else-kept w ↦ rw w.n-is (counting-skip a.name.now c.requires.1 l.i l.n l.invariant.1 (sym c.kept.ensures ∙ w.if-kept.false))
       ],
     )
