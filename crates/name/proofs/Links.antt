@@ -1,5 +1,5 @@
 -- Buckets and links: sums and products stay in 64 bits, a first use more is the last of its bucket, and a walk along the links passes every first use of the bucket.
-use Rattle.std.proofs.Common.{◌≡◌, ℕ, suc, ◌+◌, ◌-◌, ◌*◌, ◌/◌, ◌%◌, ◌^◌, ◌<◌, ◌≤◌, eqb, ltb, List, length, get_or, set, sym, ap, ◌∙◌, mul-le-mul_right, arith, length-set, get_or-set_other, get_or-set_same, ltb-false, ltb-true, eqb-true}
+use Rattle.std.proofs.Common.{◌≡◌, ℕ, suc, ◌+◌, ◌*◌, ◌/◌, ◌%◌, ◌^◌, ◌<◌, ◌≤◌, eqb, ltb, List, length, get_or, set, sym, ap, ◌∙◌, mul-le-mul_right, arith, length-set, get_or-set_other, get_or-set_same, ltb-false, ltb-true, eqb-true}
 use borrow.Author.Tests.{eqb-false}
 use Rattle.model.specs.Bytes.{Bytes}
 use Rattle.name.specs.Hashed.{eight_at, mixed_of, words_of, bucket_of, Latest}

@@ -1,5 +1,5 @@
 -- The new table: which refusal or length each answer stands for, and the records, strings and header put together.
-use Rattle.std.proofs.Common.{◌≡◌, ℕ, zero, suc, ◌+◌, ◌-◌, ◌*◌, ◌<◌, ◌≤◌, true, false, leb, List, [], ◌∷◌, ◌++◌, map, length, get_or, take, drop, sym, refl, ap, ◌∙◌, ap₂, append_assoc, append-nil, add-zero, add-one, arith, length-append, length-drop, take-append-drop, length-take, length-take-le, take-suc, take-take, drop_at, eq-eqb, ne_eqb, le-leb, leb-false, leb-true}
+use Rattle.std.proofs.Common.{◌≡◌, ℕ, zero, suc, ◌+◌, ◌*◌, ◌<◌, ◌≤◌, true, false, leb, List, [], ◌∷◌, ◌++◌, map, length, get_or, take, drop, sym, refl, ap, ◌∙◌, ap₂, append_assoc, append-nil, add-zero, add-one, arith, length-append, length-drop, take-append-drop, length-take, length-take-le, take-suc, take-take, drop_at, eq-eqb, ne_eqb, le-leb, leb-false, leb-true}
 use mathlib.Core.List.{map-append}
 use borrow.Author.Tests.{lt-leb}
 use Rattle.model.specs.Res.{Res, refuse, ok, need, map_res, is_ok, value_of, ◌>>=◌, ◌>>◌}

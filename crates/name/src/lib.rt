@@ -3,6 +3,8 @@
 // Both note the first uses in arrays of their own: rows and new offsets in order of use, and links between those whose strings have one
 // bucket (hashed.rt), so that a string is compared with few others. A font made so that many share a bucket loses only that: after a
 // dozen links in vain the numbers of the first uses are put in the order of their strings, which are then found by halving.
+#![tactic(auto)]
+
 mod hashed;
 
 ghost use Rattle.std.specs.Prelude.{◌≡◌, ℕ, ◌+◌, ◌*◌, ◌<◌, ◌≤◌, true, false, [], map, length, ◌==◌, ◌≢◌, nat_le, slice_index};

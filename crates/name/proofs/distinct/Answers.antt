@@ -1,5 +1,6 @@
-use Rattle.std.proofs.Common.{◌+◌, ◌-◌, sym, ◌∙◌, ⊎_elim, arith, rules}
+use Rattle.std.proofs.Common.{◌+◌, sym, ◌∙◌, arith, rules}
 use Rattle.name.proofs.Strings.{uses-start, arranged_start, uses_skip, bytes-over, bytes-all}
+use Rattle.name.proofs.distinct.Goals.{then-kept+else-end-gt65535, else-kept}
 use Rattle.name.proofs.distinct.Goals as goal
 
 pub loop-i-init : goal.loop-i-init
@@ -22,26 +23,28 @@ returns-then-end-gt65535 c =
     let n = c.note-noted in
     bytes-over r.args.name.now (l.i + 1) n.result.end (omega (arith, c.loop-i-test.true, c.u16_at-count.ensures)) n.ensures.0.bytes c.if-end-gt65535.true
 
-pub loop-i-preserved : goal.loop-i-preserved
-loop-i-preserved c =
-    let r = c in
-    let l = c.loop-i in
-    ⊎_elim
-    (λ w. rw (w.15, w.16, w.17, w.18, w.19, w.20, w.21) (search rules, omega arith, omega arith, omega arith, omega arith, w.5.ensures.0, w.5.ensures.1, w.14.left))
-    (λ w. rw (w.1, w.2, w.3, w.4, w.5, w.6, w.7) (
-      search rules,
-      l.invariant.1,
-      l.invariant.2,
-      l.invariant.3,
-      l.invariant.4,
-      uses_skip r.args.name.now l.firsts l.offsets l.used l.end l.i (sym c.kept.ensures ∙ w.0.left) l.invariant.5,
-      l.invariant.6,
-      l.invariant.7,
-    ))
-    c.if-kept.branch
-
 pub returns : goal.returns
 returns c =
     let r = c in
     let l = c.loop-i in
     bytes-all r.args.name.now l.i l.end (omega arith) l.invariant.5.bytes l.invariant.7
+
+pub loop-i-preserved : goal.loop-i-preserved
+loop-i-preserved c =
+    let r = c in
+    let l = c.loop-i in
+    elim c.if-kept.branch [
+      | then-kept+else-end-gt65535 w ↦
+          rw (w.firsts-is, w.offsets-is, w.links-is, w.heads-is, w.used-is, w.end-is, w.sorted-is) (search rules, omega arith, omega arith, omega arith, omega arith, w.note-noted.ensures.0, w.note-noted.ensures.1, w.if-end-gt65535.false)
+      | else-kept w ↦
+          rw (w.firsts-is, w.offsets-is, w.links-is, w.heads-is, w.used-is, w.end-is, w.sorted-is) (
+            search rules,
+            l.invariant.1,
+            l.invariant.2,
+            l.invariant.3,
+            l.invariant.4,
+            uses_skip r.args.name.now l.firsts l.offsets l.used l.end l.i (sym c.kept.ensures ∙ w.if-kept.false) l.invariant.5,
+            l.invariant.6,
+            l.invariant.7,
+          )
+    ]

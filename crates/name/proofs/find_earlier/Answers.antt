@@ -1,5 +1,6 @@
-use Rattle.std.proofs.Common.{◌-◌, ⊎_elim, arith}
+use Rattle.std.proofs.Common.{arith}
 use Rattle.name.proofs.Order.{halved, turn-shorter, turn-longer, turn-lesser, turn-greater, turn-equal, sought-at}
+use Rattle.name.proofs.find_earlier.Goals.{else-earlier-test, then-earlier-test+else-length-size+else-size-length+then-k-size}
 use Rattle.name.proofs.find_earlier.Goals as goal
 
 pub earlier-preserved-then-length-size : goal.earlier-preserved-then-length-size
@@ -34,9 +35,9 @@ pub returns-then-low-high : goal.returns-then-low-high
 returns-then-low-high c =
     let r = c in
     let l = c.earlier in
-    ⊎_elim
-    (λ w. absurd (omega arith))
-    (λ w.
-    let h = halved l.low l.high w.0.taken in
-    rw w.12 (sought-at r.args.name.now r.args.firsts.now r.args.order.now r.args.used r.args.row r.requires l.low l.high l.invariant _ h.0 h.1 (turn-equal r.args.name.now r.args.firsts.now r.args.order.now r.args.used r.args.row r.requires l.low l.high l.invariant _ h.0 h.1 w.3.result c.length_at-size.result w.3.ensures.0 c.length_at-size.ensures.0 (omega (arith, w.4.left, w.5.left)) w.6.result c.start_at-start.result w.8.k w.6.ensures.0 c.start_at-start.ensures.0 w.8.inv.0 w.9.taken)))
-    c.earlier-test.branch
+    elim c.earlier-test.branch [
+      | else-earlier-test w ↦ absurd (omega (arith, w.earlier-test.false, w.low-is, w.high-is))
+      | then-earlier-test+else-length-size+else-size-length+then-k-size w ↦
+          let h = halved l.low l.high w.earlier-test.true in
+          rw w.middle-is (sought-at r.args.name.now r.args.firsts.now r.args.order.now r.args.used r.args.row r.requires l.low l.high l.invariant _ h.0 h.1 (turn-equal r.args.name.now r.args.firsts.now r.args.order.now r.args.used r.args.row r.requires l.low l.high l.invariant _ h.0 h.1 w.length_at-length.result c.length_at-size.result w.length_at-length.ensures.0 c.length_at-size.ensures.0 (omega (arith, w.if-length-size.false, w.if-size-length.false)) w.start_at-at.result c.start_at-start.result w.loop-k.k w.start_at-at.ensures.0 c.start_at-start.ensures.0 w.loop-k.invariant.0 w.if-k-size.true))
+    ]

@@ -1,5 +1,5 @@
 -- What the links have passed has another string, and they pass every first use of the bucket.
-use Rattle.std.proofs.Common.{◌-◌, ◌≤◌}
+use Rattle.std.proofs.Common.{◌≤◌}
 use Rattle.name.proofs.Links.{Walking}
 use Rattle.name.proofs.find_linked.Given as goal
 

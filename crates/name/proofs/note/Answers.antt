@@ -1,4 +1,4 @@
--- r.args.name.now r.args.firsts.now r.args.offsets.now r.args.links.now r.args.used r.args.end r.args.row r.pre.0 string that is found is stored already, at the offset that was noted; one that is not becomes the last of the first uses and of its bucket. Where the links are too many, the first uses are put in order.
+-- A string that is found is stored already, at the offset that was noted; one that is not becomes the last of the first uses and of its bucket. Where the links are too many, the first uses are put in order.
 use Rattle.std.proofs.Common.{◌+◌, ◌*◌, length, get_or, refl, ap, ◌∙◌, arith}
 use Rattle.model.specs.Bytes.{Bytes}
 use Rattle.name.specs.Hashed.{bucket_of}
@@ -9,8 +9,8 @@ use Rattle.name.proofs.note.Goals as goal
 pub bucket-bucket-requires : goal.bucket-bucket-requires
 bucket-bucket-requires c =
     let r = c in
-    let k = c.shared_slice_known-1 in (
-      omega (arith, ap length c.string_at.ensures, length-string r.args.name.now r.args.row (row_inside r.args.name.now r.args.firsts.now r.args.offsets.now r.args.links.now r.args.used r.args.end r.args.row r.requires.0), k.given (6 + 12 * r.args.row + 8), k.given (6 + 12 * r.args.row + 8 + 1)),
+    let k = c.type_inv.name in (
+      omega (arith, ap length c.string_at.ensures, length-string r.args.name.now r.args.row (row_inside r.args.name.now r.args.firsts.now r.args.offsets.now r.args.links.now r.args.used r.args.end r.args.row r.requires.0), k (6 + 12 * r.args.row + 8), k (6 + 12 * r.args.row + 8 + 1)),
       r.requires.1.buckets.some,
       r.requires.1.buckets.few,
     )

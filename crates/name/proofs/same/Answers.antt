@@ -11,7 +11,7 @@ pub loop-k-preserved : goal.loop-k-preserved
 loop-k-preserved c =
     let r = c in
     let l = c.loop-k in
-    alike-eight r.args.name.now r.args.at r.args.start r.args.size l.k l.invariant (λ i. omega (arith, c.shared_slice_known-1.given i)) (omega arith)
+    alike-eight r.args.name.now r.args.at r.args.start r.args.size l.k l.invariant (λ i. omega (arith, c.type_inv.name i)) (omega arith)
     (sym c.eight_at.ensures ∙ c.if-eight_at.false ∙ c.eight_at-in-loop-k.ensures)
 
 pub returns-then-eight_at-2 : goal.returns-then-eight_at-2
@@ -23,4 +23,4 @@ pub returns : goal.returns
 returns c =
     let r = c in
     let l = c.loop-k in
-    compared_last r.args.name.now r.args.at r.args.start r.args.size l.k _ _ l.invariant (omega (arith, c.loop-k-test.false)) c.if-size-lt8.false (λ i. omega (arith, c.shared_slice_known-1.given i)) c.eight_at-2.ensures c.eight_at-3.ensures c.if-eight_at-2.false
+    compared_last r.args.name.now r.args.at r.args.start r.args.size l.k _ _ l.invariant (omega (arith, c.loop-k-test.false)) c.if-size-lt8.false (λ i. omega (arith, c.type_inv.name i)) c.eight_at-2.ensures c.eight_at-3.ensures c.if-eight_at-2.false

@@ -1,4 +1,4 @@
-use Rattle.std.proofs.Common.{◌-◌, arith}
+use Rattle.std.proofs.Common.{arith}
 use Rattle.name.proofs.Order.{sort-place, sort-next}
 use Rattle.name.proofs.sort.Goals as goal
 

@@ -1,7 +1,7 @@
-use borrow.Author.Tests.{not-false}
-use Rattle.std.proofs.Common.{◌-◌, sym, ◌∙◌, ⊎_elim, arith, rules}
+use Rattle.std.proofs.Common.{sym, ◌∙◌, arith, rules}
 use Rattle.name.proofs.Rows.{counting-start, counting_kept, counting-skip, counting-stop}
 use Rattle.name.proofs.Strings.{length-entries}
+use Rattle.name.proofs.test_ranges.Goals.{then-kept+else-not-inside, else-kept}
 use Rattle.name.proofs.test_ranges.Goals as goal
 
 pub loop-i-init : goal.loop-i-init
@@ -24,8 +24,8 @@ loop-i-preserved c =
     let l = c.loop-i in
     let a = c.args in (
       search rules,
-      ⊎_elim
-          (λ w. rw w.3 (counting_kept a.name.now c.requires.1 l.i l.n l.invariant.1 (sym c.kept.ensures ∙ w.0.taken) (sym w.1.ensures ∙ not-false _ w.2.left)))
-          (λ w. rw w.1 (counting-skip a.name.now c.requires.1 l.i l.n l.invariant.1 (sym c.kept.ensures ∙ w.0.left)))
-          c.if-kept.branch,
+      elim c.if-kept.branch [
+        | then-kept+else-not-inside w ↦ rw w.n-is (counting_kept a.name.now c.requires.1 l.i l.n l.invariant.1 (sym c.kept.ensures ∙ w.if-kept.true) (sym w.inside.ensures ∙ w.if-not-inside.false))
+        | else-kept w ↦ rw w.n-is (counting-skip a.name.now c.requires.1 l.i l.n l.invariant.1 (sym c.kept.ensures ∙ w.if-kept.false))
+      ],
     )

@@ -44,7 +44,7 @@ pub returns-then-count-le64 : goal.returns-then-count-le64
 returns-then-count-le64 c =
     let r = c in
     let z = ok-zero r.args.name.now r.requires.0 (sym c.u16_at.ensures ∙ c.if-u16_at-ne0.false) in
-    c.write-Kept.ensures ∙ ap (λ (x : Bytes). over x r.args.out.now) (sym z.value)
+    c.write_kept.ensures ∙ ap (λ (x : Bytes). over x r.args.out.now) (sym z.value)
 
 pub write_kept-requires-then-count-le256 : goal.write_kept-requires-then-count-le256
 write_kept-requires-then-count-le256 c =

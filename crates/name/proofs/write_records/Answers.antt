@@ -1,8 +1,9 @@
-use Rattle.std.proofs.Common.{◌-◌, ◌<◌, length, sym, ap, ◌∙◌, ⊎_elim, arith, rules}
+use Rattle.std.proofs.Common.{◌<◌, length, sym, ap, ◌∙◌, arith, rules}
 use Rattle.model.specs.Bytes.{word16, put}
 use Rattle.name.proofs.Rows.{entries_skip}
 use Rattle.name.proofs.Strings.{length-entries, entries-before, bytes_grow, uses-start, arranged_start, uses_skip, lent_rows, offset-small}
 use Rattle.name.proofs.Table.{records-none, records_skip, entries_none, entries_next, record_next}
+use Rattle.name.proofs.write_records.Goals.{then-kept, else-kept}
 use Rattle.name.proofs.write_records.Goals as goal
 
 pub loop-i-init : goal.loop-i-init
@@ -68,33 +69,33 @@ pub loop-i-preserved : goal.loop-i-preserved
 loop-i-preserved c =
     let r = c in
     let l = c.loop-i in
-    ⊎_elim
-    (λ w.
-    let k = sym c.kept.ensures ∙ w.0.taken in
-    rw (w.18, w.19, w.20, w.21, w.22, w.23, w.24, w.25, w.26) (
-      search rules,
-      omega arith,
-      omega arith,
-      omega arith,
-      omega arith,
-      omega arith,
-      w.5.ensures.0,
-      entries_next r.args.name.now l.i l.n k l.invariant.7,
-      w.15.ensures ∙ record_next r.args.name.now r.requires.lent.room.tested r.args.out.now l.out l.i l.n w.5.result.offset (omega (arith, r.requires.fits)) (omega arith) k w.5.ensures.2 l.invariant.7 l.invariant.8,
-      w.5.ensures.1,
-    ))
-    (λ w.
-    let k = sym c.kept.ensures ∙ w.0.left in
-    rw (w.1, w.2, w.3, w.4, w.5, w.6, w.7, w.8, w.9) (
-      search rules,
-      l.invariant.1,
-      l.invariant.2,
-      l.invariant.3,
-      l.invariant.4,
-      l.invariant.5,
-      uses_skip r.args.name.now l.firsts l.offsets l.used l.end l.i k l.invariant.6,
-      l.invariant.7 ∙ ap length (sym (entries_skip r.args.name.now l.i k)),
-      l.invariant.8 ∙ ap (put r.args.out.now 6) (sym (records_skip r.args.name.now l.i k)),
-      l.invariant.9,
-    ))
-    c.if-kept.branch
+    elim c.if-kept.branch [
+      | then-kept w ↦
+          let k = sym c.kept.ensures ∙ w.if-kept.true in
+          rw (w.out-is, w.firsts-is, w.offsets-is, w.links-is, w.heads-is, w.n-is, w.used-is, w.end-is, w.sorted-is) (
+            search rules,
+            omega arith,
+            omega arith,
+            omega arith,
+            omega arith,
+            omega arith,
+            w.note-noted.ensures.0,
+            entries_next r.args.name.now l.i l.n k l.invariant.7,
+            w.put_record.ensures ∙ record_next r.args.name.now r.requires.lent.room.tested r.args.out.now l.out l.i l.n w.note-noted.result.offset (omega (arith, r.requires.fits)) (omega arith) k w.note-noted.ensures.2 l.invariant.7 l.invariant.8,
+            w.note-noted.ensures.1,
+          )
+      | else-kept w ↦
+          let k = sym c.kept.ensures ∙ w.if-kept.false in
+          rw (w.out-is, w.firsts-is, w.offsets-is, w.links-is, w.heads-is, w.n-is, w.used-is, w.end-is, w.sorted-is) (
+            search rules,
+            l.invariant.1,
+            l.invariant.2,
+            l.invariant.3,
+            l.invariant.4,
+            l.invariant.5,
+            uses_skip r.args.name.now l.firsts l.offsets l.used l.end l.i k l.invariant.6,
+            l.invariant.7 ∙ ap length (sym (entries_skip r.args.name.now l.i k)),
+            l.invariant.8 ∙ ap (put r.args.out.now 6) (sym (records_skip r.args.name.now l.i k)),
+            l.invariant.9,
+          )
+    ]

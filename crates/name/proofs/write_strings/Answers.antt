@@ -1,4 +1,4 @@
-use Rattle.std.proofs.Common.{◌-◌, map, length, get_or, take, sym, ap, ◌∙◌, add-zero, arith, length-append, rules}
+use Rattle.std.proofs.Common.{map, length, get_or, take, sym, ap, ◌∙◌, add-zero, arith, length-append, rules}
 use Rattle.model.specs.Bytes.{concat, put}
 use Rattle.name.specs.Rows.{string_at}
 use Rattle.name.proofs.Table.{put-none, strings-next, string-next, string-room}

@@ -1,4 +1,4 @@
-use Rattle.std.proofs.Common.{◌-◌, refl, arith, rules}
+use Rattle.std.proofs.Common.{refl, arith, rules}
 use Rattle.name.specs.Hashed.{words_of}
 use Rattle.name.proofs.Links.{words-next}
 use Rattle.name.proofs.hashed.words.Goals as goal
