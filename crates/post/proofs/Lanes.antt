@@ -238,7 +238,7 @@ head-kept : (room after : List ℕ) (i base first last : ℕ) → Head room i ba
     → ((x : ℕ) → 4 + 4 * i ≤ x → x < 8 + 4 * i → get_or after x 0 ≡ get_or room x 0) → Head after i base first last
 head-kept room after i base first last h k =
     record {
-      base_at = place-alike room after i k ∙ h.base-at;
+      base_at = place-alike room after i k ∙ h.base_at;
       first-at = k (6 + 4 * i) (omega arith) (omega arith) ∙ h.first-at;
       last-at = k (7 + 4 * i) (omega arith) (omega arith) ∙ h.last-at;
     }
@@ -267,7 +267,7 @@ chain-at b after q c i base first at l h k some few share number e st =
       few = rw (h.last-at, share) (omega arith);
       places = λ j le.
           let lt : j < l.n = omega (arith, h.last-at) in
-          rw (h.base-at, h.first-at, share, number, ← e, k.held j lt) (stands-walked b base first j st);
+          rw (h.base_at, h.first-at, share, number, ← e, k.held j lt) (stands-walked b base first j st);
     }
 
 -- the four chains are one list of names
@@ -282,7 +282,7 @@ module _ (b : Bytes) (q c i turns : ℕ) (room room₁ after : List ℕ) (from :
   joined_at base first at l k h st = rw (k.here h) at (stands-walked b base first l.n st)
 
   stands₁ : Stands b s.a from.n
-  stands₁ = rw here (led.stands (omega (arith, sp.in-a)))
+  stands₁ = rw here (led.stands (omega (arith, sp.in_a)))
 
   stands₂ : Stands b s.b (from.n + f.a.n)
   stands₂ = rw jo.at_b at (joined_at s.a from.n (4 + 4 * c + i * q) f.a four.chain₁ (omega (arith, sp.in_b, jo.at_b)) stands₁)
@@ -291,7 +291,7 @@ module _ (b : Bytes) (q c i turns : ℕ) (room room₁ after : List ℕ) (from :
   stands₃ = rw jo.at_c at (joined_at s.b (from.n + f.a.n) (4 + 4 * c + i * q + q) f.b four.chain₂ (omega (arith, sp.in_c, jo.at_c)) stands₂)
 
   stands₄ : Stands b s.d (from.n + f.a.n + f.b.n + f.c.n)
-  stands₄ = rw jo.at-d at (joined_at s.c (from.n + f.a.n + f.b.n) (4 + 4 * c + i * q + 2 * q) f.c four.chain₃ (omega (arith, sp.in-d, jo.at-d)) stands₃)
+  stands₄ = rw jo.at-d at (joined_at s.c (from.n + f.a.n + f.b.n) (4 + 4 * c + i * q + 2 * q) f.c four.chain₃ (omega (arith, sp.in_d, jo.at-d)) stands₃)
 
   share-after : get_or after 1 0 ≡ q
   share-after = hs.front 1 (omega arith) ∙ w.front 1 (omega arith) ∙ led.share
@@ -342,7 +342,7 @@ arrived_behind b q c i first p n room room₁ after four a k l =
       stands = a.stands;
       small = a.small;
       chains = a.chains;
-      heads_front = λ x h. a.heads-front x h ∙ k x (omega arith);
+      heads_front = λ x h. a.heads_front x h ∙ k x (omega arith);
       places-front = λ x lo hi. a.places-front x lo hi ∙ k x hi;
       same_length = a.same_length ∙ l;
     }
@@ -380,14 +380,14 @@ pub made_more : (b : Bytes) (q c i first p n : ℕ) (room after : List ℕ) → 
     → Made b q c (i + 4) after
 made_more b q c i first p n room after start m a =
     record {
-      mark = a.heads-front 0 (omega arith) ∙ m.mark;
-      share = a.heads-front 1 (omega arith) ∙ m.share;
-      number = a.heads-front 2 (omega arith) ∙ m.number;
+      mark = a.heads_front 0 (omega arith) ∙ m.mark;
+      share = a.heads_front 1 (omega arith) ∙ m.share;
+      number = a.heads_front 2 (omega arith) ∙ m.number;
       from_first = λ some. by (eqb i 0)
           (λ t. let e = eqb-true i 0 t in (rw e at a.first-at) ∙ start e)
-          (λ t. let h : 0 < i = omega (arith, eqb-false i 0 t) in a.heads-front 6 (omega arith) ∙ m.from_first h);
+          (λ t. let h : 0 < i = omega (arith, eqb-false i 0 t) in a.heads_front 6 (omega arith) ∙ m.from_first h);
       chains = λ j h. by (ltb j i)
-          (λ t. let lt = ltb-true j i t in chain_stays b q c i j room after lt m.share m.number a.heads-front a.places-front (m.chains j lt))
+          (λ t. let lt = ltb-true j i t in chain_stays b q c i j room after lt m.share m.number a.heads_front a.places-front (m.chains j lt))
           (λ t. a.chains j (ltb-false j i t) h);
     }
 

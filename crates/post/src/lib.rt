@@ -4,6 +4,8 @@
 // - if few of the glyphs are kept, or if there may be far more names than glyphs, the places it found are the last 2 * kept numbers,
 //   two for each roster place, and `write` looks for nothing;
 // - else all of the half is the index that it looked into, and `write` looks into it again.
+#![tactic(auto)]
+
 mod chains;
 mod names;
 

@@ -1,8 +1,8 @@
-use Prim.Native.Nat.{◌-◌}
-use mathlib.Core.Logic.{⊎_elim, inl, inr}
+use mathlib.Core.Logic.{inl, inr}
 use native.Mathlib.Omega.{arith}
 use Rattle.post.proofs.Grow.{count-start, count_turn, count-missing, count_end}
 use Rattle.post.proofs.ask.Goals as goal
+use Rattle.post.proofs.ask.Goals.{then-i-ge258, else-i-ge258, then-want-i, else-want-i}
 
 pub loop-j-init : goal.loop-j-init
 loop-j-init c =
@@ -21,8 +21,8 @@ loop-j-preserved c =
     let l = c.loop-j in
     count_turn a.post.now a.ids.now l.own l.want c.if-i-ge258.own c.if-want-i.want l.j c.index_at-i.result
     l.invariant c.loop-j-test.true (omega arith) c.index_at-i.ensures.0
-    (⊎_elim (λ w. inl (omega arith, w.1)) (λ w. inr (omega arith, w.1)) c.if-i-ge258.branch)
-    (⊎_elim (λ w. omega arith) (λ w. omega arith) c.if-want-i.branch)
+    (elim c.if-i-ge258.branch [ then-i-ge258 w ↦ inl (omega arith, w.own-is) | else-i-ge258 w ↦ inr (omega arith, w.own-is) ])
+    (elim c.if-want-i.branch [ then-want-i w ↦ omega arith | else-want-i w ↦ omega arith ])
 
 pub returns : goal.returns
 returns c =

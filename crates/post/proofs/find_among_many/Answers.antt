@@ -13,7 +13,7 @@ pub returns : goal.returns
 unfolding places_at
 returns c =
     let a = c.args in
-    let f = placed_many (length a.post.now) a.n a.kept c.requires.kept_bound.1 in
+    let f = placed_many (length a.post.now) a.n a.kept c.requires.n_value in
     let z = c.names_size.ensures in
     sought a.post.now a.n (2 * a.n - a.kept) a.kept _ a.scratch.now a.scratch.now _ (omega arith) (omega arith) (omega arith) (rw f)
     (behind-same a.n a.n a.scratch.now) (λ e. true_false (sym f ∙ e)) z.0 z.1
@@ -21,8 +21,5 @@ returns c =
 pub names_size-requires-clause-index : goal.names_size-requires-clause-index
 unfolding index_for
 names_size-requires-clause-index c =
-    let p = c.requires in
-let l : length c.fill.new.room.1.1.0 ≡ 8192 = search rules in (
-      (p.0.0, p.0.2),
-      (rw l c.fill.ensures, (omega arith, λ h. omega arith)),
-    )
+    let l : length c.fill.new.room ≡ 8192 = search rules in
+    rw l c.fill.ensures

@@ -8,12 +8,10 @@ pub name_near-requires-clause-index : goal.name_near-requires-clause-index
 unfolding index_for
 name_near-requires-clause-index c =
     let a = c.args in
-    let p = c.requires.index in
-(rw (eq-eqb (length a.own.now) 0 c.if-own-eq0.true) at p.0, p.1)
+    rw (eq-eqb (length a.own.now) 0 c.if-own-eq0.true) at c.requires.index.0
 
 pub name_near-requires-2-clause-index : goal.name_near-requires-2-clause-index
 unfolding index_for
 name_near-requires-2-clause-index c =
     let a = c.args in
-    let p = c.requires.index in
-(rw (ne_eqb (length a.own.now) 0 c.if-own-eq0.false) at p.0, p.1)
+    rw (ne_eqb (length a.own.now) 0 c.if-own-eq0.false) at c.requires.index.0

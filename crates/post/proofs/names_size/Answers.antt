@@ -1,4 +1,3 @@
-use Prim.Native.Nat.{◌-◌}
 use mathlib.Core.Path.{◌≡◌, ◌∙◌}
 use mathlib.Core.List.{flat_map}
 use native.Mathlib.Omega.{arith}
@@ -50,15 +49,7 @@ pub name_size-named-requires-clause-index : goal.name_size-named-requires-clause
 name_size-named-requires-clause-index c =
     let a = c.args in
     let l = c.loop-j in
-    let p = c.requires in
-    let g = placing_number a.post.now a.n a.at l.j a.kept a.scratch.now l.scratch (omega arith) (omega arith) l.invariant.3 in
-let len = length-take-le a.kept a.scratch.now (omega arith) in (
-      (rw (index_stays a.n a.at a.scratch.now l.scratch l.invariant.3.behind a.own.now (omega arith)) p.1.0, omega arith),
-      (
-        omega (arith, g, p.0.0.array, p.0.0.under l.j (omega arith)),
-        (omega (arith, l.invariant.3.behind.same_length), λ h. omega (arith, p.1.1.1 h)),
-      ),
-    )
+    (rw (index_stays a.n a.at a.scratch.now l.scratch l.invariant.3.behind a.own.now (omega arith)) c.requires.index, omega arith)
 
 pub name_size-named-requires-clause-j_in_bounds : goal.name_size-named-requires-clause-j_in_bounds
 name_size-named-requires-clause-j_in_bounds c =
@@ -66,10 +57,5 @@ name_size-named-requires-clause-j_in_bounds c =
     let l = c.loop-j in
     let p = c.requires in
     let g = placing_number a.post.now a.n a.at l.j a.kept a.scratch.now l.scratch (omega arith) (omega arith) l.invariant.3 in
-let len = length-take-le a.kept a.scratch.now (omega arith) in (
-      (rw (index_stays a.n a.at a.scratch.now l.scratch l.invariant.3.behind a.own.now (omega arith)) p.1.0, omega arith),
-      (
-        omega (arith, g, p.0.0.array, p.0.0.under l.j (omega arith)),
-        (omega (arith, l.invariant.3.behind.same_length), λ h. omega (arith, p.1.1.1 h)),
-      ),
-    )
+    let len = length-take-le a.kept a.scratch.now (omega arith) in
+    omega (arith, g, p.named.0.array, p.named.0.under l.j (omega arith))

@@ -46,3 +46,6 @@ returns c =
     let l = length-stored a.post.now a.g p (omega arith) s in
     let e = name-copied a.post.now a.g p (omega arith) s (omega arith) in
     (c.copy.ensures ∙ rw (e, ← c.size_at-l.ensures), omega arith)
+
+pub slice_bounds-copy-end : goal.slice_bounds-copy-end
+slice_bounds-copy-end c = omega (arith, size-inside c.args.post.now c.place_of-p.result (omega arith))

@@ -34,11 +34,9 @@ returns-in-Missing c =
 pub returns-then-own : goal.returns-then-own
 returns-then-own c =
     let a = c.args in
-    let g = c.own-1.given in
-    told-many a.post.now a.ids.now (sym c.u32_at.ensures ∙ c.if-u32_at-ne131072.false) (omega arith) g.0.0 g.0.1.0 (rw g.1 at c.ask.ensures) (omega arith)
+    told-many a.post.now a.ids.now (sym c.u32_at.ensures ∙ c.if-u32_at-ne131072.false) (omega arith) c.in-Names.own c.in-Names.want (rw c.in-Names.is at c.ask.ensures) (omega arith)
 
 pub returns-else-own : goal.returns-else-own
 returns-else-own c =
     let a = c.args in
-    let g = c.own-1.given in
-    told_named a.post.now a.ids.now (sym c.u32_at.ensures ∙ c.if-u32_at-ne131072.false) (omega arith) g.0.0 g.0.1.0 (rw g.1 at c.ask.ensures) (omega arith)
+    told_named a.post.now a.ids.now (sym c.u32_at.ensures ∙ c.if-u32_at-ne131072.false) (omega arith) c.in-Names.own c.in-Names.want (rw c.in-Names.is at c.ask.ensures) (omega arith)

@@ -12,7 +12,7 @@ pub slice_bounds-write_names-count : goal.slice_bounds-write_names-count
 slice_bounds-write_names-count c =
     let a = c.args in
     let p = c.requires in
-    omega (arith, length-post_bytes a.post.now a.ids.now (omega (arith, p.0.array)))
+    omega (arith, length-post_bytes a.post.now a.ids.now (omega (arith, p.named.array)))
 
 pub returns : goal.returns
 unfolding post_bytes
@@ -21,17 +21,22 @@ returns c =
     let b = a.post.now in
     let ids = a.ids.now in
     let h = c.requires.named.array in
-    two-parts a.out.now c.write_head.new.out.1.0 c.write_names.new.out.1.1.1.0 (head_bytes b ids) (flat_map (name_bytes b) ids) _ _
+    two-parts a.out.now c.write_head.new.out c.write_names.new.out (head_bytes b ids) (flat_map (name_bytes b) ids) _ _
     c.write_head.ensures (length-head_bytes b ids (omega arith)) refl c.write_names.ensures (omega (arith, length-post_bytes b ids (omega arith)))
 
 pub write_head-requires-clause-ids_len_bound : goal.write_head-requires-clause-ids_len_bound
 write_head-requires-clause-ids_len_bound c =
     let a = c.args in
     let p = c.requires in
-(p.1.1.0, omega (arith, length-post_bytes a.post.now a.ids.now (omega (arith, p.0.array))))
+    (p.ids_len_bound.0, omega (arith, length-post_bytes a.post.now a.ids.now (omega (arith, p.named.array))))
 
 pub write_names-requires-clause-ids_in_bounds : goal.write_names-requires-clause-ids_in_bounds
 write_names-requires-clause-ids_in_bounds c =
     let a = c.args in
     let p = c.requires in
-(p.0, (p.1.0, simp (length-take, length-drop) (omega (arith, length-post_bytes a.post.now a.ids.now (omega (arith, p.0.array))))))
+    simp (length-take, length-drop) (omega (arith, length-post_bytes a.post.now a.ids.now (omega (arith, p.named.array))))
+
+pub slice_bounds-write_names-start : goal.slice_bounds-write_names-start
+slice_bounds-write_names-start c =
+    let a = c.args in
+    omega (arith, length-post_bytes a.post.now a.ids.now (omega (arith, c.requires.named.array)))

@@ -26,6 +26,6 @@ returns c =
     let b = a.post.now in
     let ids = a.ids.now in
     let h = c.requires.named.array in
-    two-parts a.out.now c.put_u16.new.out c.write_indexes.new.out.1.0 (take 32 b ++ be16 (length ids)) (index_bytes b ids) 34 _
-    (start-written b ids a.out.now c.copy.new.out.0 c.put_u16.new.out (omega arith) c.copy.ensures c.put_u16.ensures)
+    two-parts a.out.now c.put_u16.new.out c.write_indexes.new.out (take 32 b ++ be16 (length ids)) (index_bytes b ids) 34 _
+    (start-written b ids a.out.now c.copy.new.out c.put_u16.new.out (omega arith) c.copy.ensures c.put_u16.ensures)
     (length-start b ids (omega arith)) refl c.write_indexes.ensures (omega (arith, length-index_bytes b ids))

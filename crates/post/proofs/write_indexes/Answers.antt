@@ -1,6 +1,5 @@
-use Prim.Native.Nat.{◌-◌, ◌+◌}
+use Prim.Native.Nat.{◌+◌}
 use mathlib.Core.Path.{sym, ◌∙◌}
-use mathlib.Core.Logic.{⊎_elim}
 use mathlib.Core.List.{flat_map}
 use native.Mathlib.Omega.{arith}
 use Rattle.model.proofs.Bytes.{over_nil}
@@ -8,6 +7,7 @@ use Rattle.post.specs.Post.{index_bytes, stored_names}
 use Rattle.post.proofs.Grow.{stored-kept, stored-new, stored-within, index_kept, index-new}
 use borrow.Author.Rules.{rules}
 use Rattle.post.proofs.write_indexes.Goals as goal
+use Rattle.post.proofs.write_indexes.Goals.{then-i-gt257, else-i-gt257}
 
 pub loop-j-init : goal.loop-j-init
 unfolding flat_map index_bytes stored_names
@@ -22,8 +22,10 @@ pub overflow_cast-i : goal.overflow_cast-i
 overflow_cast-i c =
     let a = c.args in
     let l = c.loop-j in
-    ⊎_elim (λ w. omega (arith, c.requires.named.few, stored-within a.post.now a.ids.now (l.j + 1), stored-new a.post.now a.ids.now l.j c.loop-j-test.true (omega arith)))
-    (λ w. omega arith) c.if-i-gt257.branch
+    elim c.if-i-gt257.branch [
+      | then-i-gt257 w ↦ omega (arith, c.requires.named.few, stored-within a.post.now a.ids.now (l.j + 1), stored-new a.post.now a.ids.now l.j c.loop-j-test.true (omega arith))
+      | else-i-gt257 w ↦ omega arith
+    ]
 
 pub loop-j-preserved : goal.loop-j-preserved
 loop-j-preserved c =
@@ -32,7 +34,12 @@ loop-j-preserved c =
     let lt = c.loop-j-test.true in (
       search rules,
       search rules,
-      ⊎_elim (λ w. omega (arith, stored-new a.post.now a.ids.now l.j lt (omega arith))) (λ w. omega (arith, stored-kept a.post.now a.ids.now l.j lt (omega arith))) c.if-i-gt257.branch,
-      c.put_u16.ensures ∙ ⊎_elim (λ w. rw (w.2, l.invariant.2) (index-new a.post.now a.ids.now a.out.now l.out l.j lt l.invariant.3 (omega arith)))
-          (λ w. rw (w.2, c.index_at-i.ensures.0) (index_kept a.post.now a.ids.now a.out.now l.out l.j lt l.invariant.3 (omega arith))) c.if-i-gt257.branch,
+      elim c.if-i-gt257.branch [
+        | then-i-gt257 w ↦ omega (arith, stored-new a.post.now a.ids.now l.j lt (omega arith))
+        | else-i-gt257 w ↦ omega (arith, stored-kept a.post.now a.ids.now l.j lt (omega arith))
+      ],
+      c.put_u16.ensures ∙ elim c.if-i-gt257.branch [
+        | then-i-gt257 w ↦ rw (w.i-is, l.invariant.2) (index-new a.post.now a.ids.now a.out.now l.out l.j lt l.invariant.3 (omega arith))
+        | else-i-gt257 w ↦ rw (w.i-is, c.index_at-i.ensures.0) (index_kept a.post.now a.ids.now a.out.now l.out l.j lt l.invariant.3 (omega arith))
+      ],
     )

@@ -1,4 +1,4 @@
-use Prim.Native.Nat.{◌-◌, ◌+◌}
+use Prim.Native.Nat.{◌+◌}
 use mathlib.Core.Path.{sym, ◌∙◌}
 use mathlib.Core.List.{flat_map}
 use native.Mathlib.Omega.{arith}
@@ -30,4 +30,4 @@ put_name-at-requires-clause-g_in_bounds_2 c =
     let a = c.args in
     let l = c.loop-j in
     let t = names-turn a.post.now a.ids.now l.j c.loop-j-test.true in
-(c.requires.located.0.places l.j c.loop-j-test.true, (omega (arith, c.requires.named.under l.j c.loop-j-test.true), omega (arith, names-within a.post.now a.ids.now (l.j + 1))))
+    omega (arith, names-within a.post.now a.ids.now (l.j + 1))

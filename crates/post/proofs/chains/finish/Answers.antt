@@ -9,4 +9,4 @@ returns c =
     let p = c.requires in
     let g = c.go_on-d in
     let h = c.set_heads in
-    arrive a.post.now a.q a.chains a.i a.f.turns a.room.now g.new.1.0 h.new.0 a.from a.s a.f g.result p.0.0 p.0.1 p.1.0 p.1.2 p.1.1 p.1.3 g.ensures h.ensures (omega arith)
+    arrive a.post.now a.q a.chains a.i a.f.turns a.room.now g.new.room h.new.room a.from a.s a.f g.result p.led.0 p.led.1 p.four.0 p.four.2 p.four.1 p.four.3 g.ensures h.ensures (omega arith)

@@ -1,5 +1,4 @@
 use mathlib.Core.Path.{refl}
-use Prim.Native.Nat.{◌-◌}
 use Rattle.post.proofs.Lanes.{going_start}
 use Rattle.post.proofs.chains.run_all.Goals as goal
 

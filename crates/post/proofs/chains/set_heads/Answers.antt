@@ -9,4 +9,4 @@ returns c =
     let h₂ = c.set_head-2 in
     let h₃ = c.set_head-3 in
     let h₄ = c.set_head-4 in
-    heads_set a.i a.first a.s a.a a.b a.c a.d a.room.now h₁.new.0 h₂.new.0 h₃.new.0 h₄.new.0 h₁.ensures h₂.ensures h₃.ensures h₄.ensures
+    heads_set a.i a.first a.s a.a a.b a.c a.d a.room.now h₁.new.room h₂.new.room h₃.new.room h₄.new.room h₁.ensures h₂.ensures h₃.ensures h₄.ensures

@@ -19,4 +19,4 @@ returns c =
     let p = c.requires in
     let j = c.slot-j.result in
     rw (c.walk-2.ensures, c.place.ensures.0)
-    (index-walk a.post.now a.room.now a.k a.s j p.0.0 p.0.2 (omega arith) (omega arith) (slot-before a.k a.s j (omega arith)))
+    (index-walk a.post.now a.room.now a.k a.s j p.strided.0 p.strided.2 (omega arith) (omega arith) (slot-before a.k a.s j (omega arith)))
