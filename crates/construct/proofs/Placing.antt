@@ -1,5 +1,5 @@
 -- The layout, place by place: the places so far before the old ones; the result puts each table where those before it end.
-use Rattle.std.proofs.Common.{◌≡◌, ℕ, zero, suc, ◌+◌, ◌-◌, ◌*◌, ◌<◌, ◌≤◌, Bool, true, false, List, [], ◌∷◌, ◌++◌, length, get_or, drop, set, sym, refl, ap, ◌∙◌, ap₂, append-nil, add-one, arith, length-append, drop-cons}
+use Rattle.std.proofs.Common.{◌≡◌, ℕ, zero, suc, ◌+◌, ◌*◌, ◌<◌, ◌≤◌, Bool, true, false, List, [], ◌∷◌, ◌++◌, length, get_or, drop, set, sym, refl, ap, ◌∙◌, ap₂, append-nil, add-one, arith, length-append, drop-cons}
 use native.Mathlib.Decide.{dec_lt}
 use lib.ListN.{get_or-append}
 use lib.Seq.{set_at, get_or_at, append_snoc}

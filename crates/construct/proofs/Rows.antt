@@ -1,5 +1,5 @@
 -- The records one by one, and the whole file: rows so far and their tables' sum; then header, rows and adjustment joined.
-use Rattle.std.proofs.Common.{◌≡◌, ℕ, ◌+◌, ◌-◌, ◌*◌, ◌%◌, ◌^◌, ◌<◌, ◌≤◌, true, false, List, ◌++◌, length, get_or, take, drop, sym, refl, ap, ◌∙◌, ap₂, arith, length-append, take_at}
+use Rattle.std.proofs.Common.{◌≡◌, ℕ, ◌+◌, ◌*◌, ◌%◌, ◌^◌, ◌<◌, ◌≤◌, true, false, List, ◌++◌, length, get_or, take, drop, sym, refl, ap, ◌∙◌, ap₂, arith, length-append, take_at}
 use Rattle.model.specs.Bytes.{Bytes, part, be32, put, over}
 use Rattle.model.specs.Font.{Entry}
 use Rattle.model.specs.File.{word_sum, checksum, header, row, rows_from, bodies, adjust, adjustment, directory_of, file}

@@ -1,6 +1,8 @@
 // The new file around its tables (the second half of the crate's lib.rs): where each table stands, the header and the records
 // with their checksums, and head's adjustment. Document 01, "File". The caller asks for the layout once all lengths are known,
 // writes and pads each table at its place, and has `finish` write the directory.
+#![tactic(auto)]
+
 ghost use Rattle.std.specs.Prelude.{◌≡◌, ℕ, ◌+◌, ◌-◌, ◌*◌, ◌%◌, ◌^◌, ◌<◌, ◌≤◌, length, take, replicate, slice_index};
 ghost use Rattle.model.specs.Bytes.{be32, put, over, part};
 ghost use Rattle.model.specs.File.{checksum, header, row, rows_from, bodies, file};

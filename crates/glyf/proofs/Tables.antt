@@ -166,8 +166,8 @@ width-new bs wide e = e' ∙ go (leb (size bs) 131070) refl
     go false f = ap width (lt-ltb 131070 (size bs) (leb-false (size bs) 131070 f))
 
 pub length-new_glyf : (bs : List Bytes) (wide : Bool) (even raw : ℕ) → Measured bs even raw → length (new_glyf (width wide) bs) ≡ pick wide raw even
-length-new_glyf bs true even raw m = length-new_glyf-long bs ∙ sym m.is-raw
-length-new_glyf bs false even raw m = length-new_glyf-short bs ∙ sym m.is-even
+length-new_glyf bs true even raw m = length-new_glyf-long bs ∙ sym m.is_raw
+length-new_glyf bs false even raw m = length-new_glyf-short bs ∙ sym m.is_even
 
 pub offsets_fit : (bs : List Bytes) (wide : Bool) → wide ≡ ltb 131070 (size bs) → length (new_glyf (width wide) bs) ≤ 4294967295 → length (new_glyf (width wide) bs) ≤ most_offset (width wide)
 offsets_fit bs true e h = h

@@ -1,7 +1,7 @@
 -- Writing glyph by glyph: each has room and is read, and what is put behind the first i outlines makes i + 1.
 use mathlib.Core.Path.{◌≡◌, refl, sym, ap, ap₂, ◌∙◌, subst}
-use mathlib.Core.Bool.{true, false}
-use mathlib.Core.List.{List, [], ◌++◌, map}
+use mathlib.Core.Bool.{true}
+use mathlib.Core.List.{List, [], ◌++◌}
 use Prim.Native.Nat.{ℕ, ◌+◌, ◌*◌, ◌-◌, ◌/◌, ◌≤◌, ◌<◌}
 use native.Mathlib.Omega.{arith}
 use lib.ListN.{length, take, drop, get_or, length-take, length-drop}
@@ -9,7 +9,7 @@ use lib.Seq.{length-take-le, get_or-take, take-length}
 use borrow.Rule.Slice.PartMut.{put_mid}
 use Rattle.model.specs.Res.{Res, refuse, ok, map_res, is_ok, value_of}
 use Rattle.model.specs.Bytes.{Bytes, part, put, member, place}
-use Rattle.model.specs.Glyf.{Width, short, long, entry_size, unit, be_entry, size, padded, new_glyf}
+use Rattle.model.specs.Glyf.{Width, short, long, entry_size, unit, be_entry, padded, new_glyf}
 use Rattle.model.specs.Outline.{Outline, outline, renumber, written}
 use Rattle.model.proofs.Res.{true_false}
 use Rattle.model.proofs.Bytes.{length-put}

@@ -2,6 +2,8 @@
 // (document 01, "glyf, loca"; the crate's glyf.rs). The walk has read every outline, so nothing is refused here. It has
 // added up their lengths too, from which the width of the new loca follows. `write` writes both tables, since where an
 // outline ends in the one is an entry of the other.
+#![tactic(auto)]
+
 ghost use Rattle.std.specs.Prelude.{◌≡◌, ◌+◌, ◌*◌, ◌-◌, ◌/◌, ◌≤◌, ◌<◌, [], length, take};
 ghost use Rattle.model.specs.Res.{value_of};
 ghost use Rattle.model.specs.Bytes.{part, put, be16};
