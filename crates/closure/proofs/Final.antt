@@ -50,7 +50,7 @@ module _ (parts : ℕ → Res (List ℕ)) (lengths : ℕ → ℕ) (turns n : ℕ
   closes s s' a v e f p = subst (λ v. Closes lengths (ended v) n s s' a) (sym e) (go a v f)
     where
       total : (k even raw : ℕ) (r : List ℕ) → k ≡ length r → Summed lengths r even raw → closed_of (Kept k even raw) ≡ ok (totals lengths r)
-      total k even raw r e z = rw (e, z.is-even, z.is-raw)
+      total k even raw r e z = rw (e, z.is_even, z.is_raw)
 
       go : (a : Closed) (v : Walk) → Ends lengths n s' a v → Closes lengths (ended v) n s s' a
       go (Kept k even raw) (going r st) f = absurd f

@@ -36,14 +36,14 @@ module _ (lengths : ℕ → ℕ) where
   summed_more before after kept even raw m z =
       record {
         is_even =
-            ap₂ (λ (x y : ℕ). x + raised_to short y) z.is-even m.size
+            ap₂ (λ (x y : ℕ). x + raised_to short y) z.is_even m.size
             ∙ sym (sum_more (λ (g : ℕ). raised_to short (lengths g)) lengths before after kept m);
-        is_raw = ap₂ (λ (x y : ℕ). x + y) z.is-raw m.size ∙ sym (sum_more lengths lengths before after kept m);
+        is_raw = ap₂ (λ (x y : ℕ). x + y) z.is_raw m.size ∙ sym (sum_more lengths lengths before after kept m);
       }
 
   pub summed_small : ((g : ℕ) → lengths g < 4294967296) → (gs : List ℕ) (even raw : ℕ) → Summed lengths gs even raw
       → (even ≤ 4294967296 * length gs) × (raw ≤ 4294967296 * length gs)
   summed_small h gs even raw z = (
-    omega (arith, z.is-even, sum-small (λ (g : ℕ). raised_to short (lengths g)) 4294967296 (λ g. omega (arith, h g)) gs),
-    omega (arith, z.is-raw, sum-small lengths 4294967296 (λ g. omega (arith, h g)) gs),
+    omega (arith, z.is_even, sum-small (λ (g : ℕ). raised_to short (lengths g)) 4294967296 (λ g. omega (arith, h g)) gs),
+    omega (arith, z.is_raw, sum-small lengths 4294967296 (λ g. omega (arith, h g)) gs),
   )

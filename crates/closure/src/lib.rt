@@ -2,6 +2,8 @@
 // The stack of the paper is not kept as such: the requests are read off the roster, the last one first, and the components wait in a ring,
 // where one that is pushed again moves to the top. The walk by moving to the top is the paper's walk (theorem `thin`).
 // Each kept outline is read once, here: so the walk adds up their lengths too, from which the sizes of glyf and loca follow.
+#![tactic(auto)]
+
 ghost use Rattle.std.specs.Prelude.{◌≡◌, [], ◌∷◌, ◌+◌, ◌*◌, ◌≤◌, ◌<◌, length};
 ghost use Rattle.model.specs.Res.{map_res, value_of};
 ghost use Rattle.model.specs.Outline.{outline, components};
