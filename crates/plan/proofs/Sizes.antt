@@ -140,7 +140,7 @@ module _ (font : Bytes) (s : Source) (scratch : List ℕ) (kept : ℕ) (o : Open
       → OutlinesAdded (font_of font s) (take kept scratch) (record { even = even; raw = raw })
   added even raw e f =
       let m = measured-roster (width s.long) s.n (font_of font s).loca (font_of font s).glyf (take kept scratch) readable in
-      record { is_even = e ∙ m.is-even ∙ ap size pieces_are; is_raw = f ∙ m.is-raw ∙ ap (λ (l : List Bytes). sum (map (λ (b : Bytes). length b) l)) pieces_are }
+      record { is_even = e ∙ m.is_even ∙ ap size pieces_are; is_raw = f ∙ m.is_raw ∙ ap (λ (l : List Bytes). sum (map (λ (b : Bytes). length b) l)) pieces_are }
 
   module _ (count hmtx name post : ℕ) (z : Sums) (sums : OutlinesAdded (font_of font s) (take kept scratch) z)
       (metric : MetricsPassed (font_of font s) (take kept scratch) count hmtx) (named : NamePassed (font_of font s) name) (posted : PostPassed (font_of font s) (take kept scratch) post) where
@@ -151,7 +151,7 @@ module _ (font : Bytes) (s : Source) (scratch : List ℕ) (kept : ℕ) (o : Open
     fits = measured-fits (font_of font s).hhea (font_of font s).hmtx (take kept scratch) count hmtx metric (omega (arith, rostered.size font s scratch kept o w, rostered.some font s scratch kept o w))
 
     new-width : width wide ≡ new_width (size outlines)
-    new-width = width-new outlines wide (ap (ltb 131070) sums.is-even)
+    new-width = width-new outlines wide (ap (ltb 131070) sums.is_even)
 
     loca-length : entry_size (width wide) * (kept + 1) ≡ length (new_loca (new_width (size outlines)) 0 outlines)
     loca-length =
