@@ -2,7 +2,7 @@
 use mathlib.Core.Path.{◌≡◌, sym, ap, subst}
 use mathlib.Core.Bool.{true}
 use mathlib.Core.List.{List}
-use Prim.Native.Nat.{ℕ, ◌-◌, ◌≤◌, ◌<◌}
+use Prim.Native.Nat.{ℕ, ◌≤◌, ◌<◌}
 use native.Mathlib.Omega.{arith}
 use lib.ListN.{length, take}
 use lib.Seq.{length-take-le}
@@ -11,7 +11,6 @@ use Rattle.model.specs.Bytes.{Bytes, place}
 use Rattle.model.specs.Glyf.{width_of}
 use Rattle.model.specs.Cut.{count, parts_of, piece_of}
 use Rattle.model.proofs.Members.{In, in_under}
-use Rattle.model.proofs.Thin.{ids}
 use Rattle.model.proofs.Least.{Roster}
 use Rattle.model.proofs.Closure.{closure-roster, pieces-known}
 use Rattle.model.proofs.Places.{place-low}

@@ -1,5 +1,7 @@
 // Steps 6 to 8: every table is measured, in the order that decides a refusal, before a byte of the output is written
 // (the first half of what `process` does in the crate's lib.rs).
+#![tactic(auto)]
+
 ghost use Rattle.std.specs.Prelude.{◌≡◌, false, ◌≤◌, take};
 ghost use Rattle.model.specs.Res.{map_res};
 ghost use Rattle.model.specs.Metrics.{metrics};
