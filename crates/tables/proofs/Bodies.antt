@@ -12,7 +12,7 @@ use lib.ListN.{length, get_or, take}
 use Rattle.model.specs.Res.{Res, refuse, ok, pick, each, map_res, is_ok, value_of, ◌>>=◌}
 use Rattle.model.specs.Bytes.{Bytes, put, over, member, place}
 use Rattle.model.specs.Font.{Tables}
-use Rattle.model.specs.Glyf.{Width, long, width, width_of, entry_size, size, new_width, new_glyf, new_loca, new_head}
+use Rattle.model.specs.Glyf.{Width, width, width_of, entry_size, size, new_width, new_glyf, new_loca, new_head}
 use Rattle.model.specs.Metrics.{Metric, metrics, new_count, new_hmtx, new_hhea}
 use Rattle.model.specs.Name.{cut_name}
 use Rattle.model.specs.Post.{cut_post}

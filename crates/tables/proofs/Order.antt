@@ -1,15 +1,14 @@
 -- The tables stand apart, so that the order in which they are written does not matter: glyf and loca first, then the others, is all in tag order.
 use mathlib.Core.Path.{◌≡◌, refl, sym, ap, ◌∙◌}
-use mathlib.Core.Bool.{Bool, true, false, not}
+use mathlib.Core.Bool.{Bool, true, false}
 use Prim.Native.Nat.{ℕ, ◌+◌, ◌≤◌, ◌<◌}
 use native.Mathlib.Omega.{arith}
 use native.Mathlib.Numerals.{add-one}
-use lib.Dec.{eqb, lit<}
+use lib.Dec.{lit<}
 use lib.ListN.{length}
-use borrow.Author.Tests.{eq-eqb, ne_eqb, eqb-true}
+use borrow.Author.Tests.{ne_eqb}
 use Rattle.model.specs.Res.{pick}
 use Rattle.model.specs.Bytes.{Bytes, put, pad4}
-use Rattle.model.proofs.Res.{true_false}
 use Rattle.model.proofs.Bytes.{length-put}
 use Rattle.model.proofs.Puts.{put-swap}
 use Rattle.places.specs.Places.{place_at}
@@ -24,7 +23,7 @@ use Rattle.tables.specs.Writing.{others_to, Single}
 pub other_more : (new : Layout) (body : ℕ → Bytes) (k : ℕ) (out : Bytes) {a b : Bytes} → Single k → a ≡ others_to new body out k → b ≡ write_at new k (body k) a
     → b ≡ others_to new body out (k + 1)
 unfolding others_to
-other_more new body k out s e f = rw (add-one, ne_eqb k 2 s.no-glyf, ne_eqb k 6 s.no-loca) (f ∙ ap (write_at new k (body k)) e)
+other_more new body k out s e f = rw (add-one, ne_eqb k 2 s.no_glyf, ne_eqb k 6 s.no_loca) (f ∙ ap (write_at new k (body k)) e)
 
 pub glyf_skipped : (new : Layout) (body : ℕ → Bytes) (k : ℕ) (out : Bytes) {a : Bytes} → k ≡ 2 → a ≡ others_to new body out k → a ≡ others_to new body out (k + 1)
 unfolding others_to
@@ -33,17 +32,6 @@ glyf_skipped new body k out s e = rw s (rw s at e)
 pub loca_skipped : (new : Layout) (body : ℕ → Bytes) (k : ℕ) (out : Bytes) {a : Bytes} → k ≡ 6 → a ≡ others_to new body out k → a ≡ others_to new body out (k + 1)
 unfolding others_to
 loca_skipped new body k out s e = rw s (rw s at e)
-
--- the second test of `&&`, which the code keeps as a bool
-pub no_loca-by : (k : ℕ) → not (eqb k 6) ≡ true → k ≡ 6 → ⊥
-no_loca-by k t e = true_false (sym t ∙ ap not (eq-eqb k 6 e))
-
-pub loca-by : (k : ℕ) → not (eqb k 6) ≡ false → k ≡ 6
-loca-by k t = go (eqb k 6) refl t
-  where
-    go : (b : Bool) → eqb k 6 ≡ b → not b ≡ false → k ≡ 6
-    go true e f = eqb-true k 6 e
-    go false e f = true_false f
 
 module _ (new : Layout) (placed : Placed new) (body : ℕ → Bytes) (sized : Sized new.tables body) where
   abbrev at : ℕ → ℕ

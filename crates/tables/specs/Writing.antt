@@ -33,7 +33,7 @@ pub record Writes (font : Bytes) (s : Source) (scratch : List ℕ) (kept : ℕ) 
 -- table number k is written by itself: all but glyf and loca (numbers 2 and 6)
 pub record Single (k : ℕ) : Type 0 where
   pub known : k < 11
-  pub no_glyf_lem : k ≡ 2 → ⊥
+  pub no_glyf : k ≡ 2 → ⊥
   pub no_loca : k ≡ 6 → ⊥
 
 -- such ones among the first k, written one after the other

@@ -1,6 +1,8 @@
 // The new tables, written (the second half of what `process` does in the crate's lib.rs). Everything is measured and the layout is
 // known, so nothing is refused here: each table is lent its own part of the output and zero-padded, glyf and loca first, and the
 // directory and head's adjustment are written last.
+#![tactic(auto)]
+
 ghost use Rattle.std.specs.Prelude.{◌≡◌, ◌≤◌, length, take};
 ghost use Rattle.model.specs.Bytes.{put, over};
 ghost use Rattle.model.specs.File.{entries, file};
