@@ -3,7 +3,7 @@ use mathlib.Core.Path.{◌≡◌, refl, sym, ap, ap₂, ◌∙◌, subst}
 use mathlib.Core.Bool.{Bool, false}
 use mathlib.Core.Option.{Option}
 use mathlib.Core.List.{List, ◌++◌}
-use Prim.Native.Nat.{ℕ, ◌+◌, ◌*◌, ◌-◌, ◌≤◌, ◌<◌}
+use Prim.Native.Nat.{ℕ, ◌*◌, ◌-◌, ◌≤◌, ◌<◌}
 use native.Mathlib.Omega.{arith}
 use native.Mathlib.Nat.{sub-zero}
 use lib.Dec.{leb}
@@ -12,8 +12,7 @@ use lib.ListN.{length, get_or, take, drop, replicate, length-take}
 use Rattle.model.specs.Res.{Res, refuse, ok, each, map_res}
 use Rattle.model.specs.Bytes.{Bytes, put, place}
 use Rattle.model.specs.Font.{Tables}
-use Rattle.model.specs.Glyf.{Width, long, width, width_of}
-use Rattle.model.specs.Walk.{walk}
+use Rattle.model.specs.Glyf.{Width, width, width_of}
 use Rattle.model.specs.Cut.{CutFont, closure, piece_of, optional, rewrite}
 use Rattle.model.specs.Metrics.{metrics}
 use Rattle.model.specs.Name.{cut_name}

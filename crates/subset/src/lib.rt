@@ -1,5 +1,7 @@
 // The public call: document 01's steps 1 to 10, in the order that decides a refusal (subset_inner, prepare_context and _subset of the
 // crate's lib.rs). Every table is measured first; only when all sizes are known and the output is long enough is a byte of it written.
+#![tactic(auto)]
+
 ghost use Rattle.std.specs.Prelude.{◌≡◌, false, ◌*◌, ◌≤◌, length, take};
 ghost use Rattle.model.specs.Call.{Promise};
 ghost use Rattle.answer.specs.Answers.{answer_of};
