@@ -1,4 +1,6 @@
 // The exported call: numbers and slices only, so that C and what speaks C can link it. A `&[T]` or `&mut [T]` passes as a pointer and a length.
+#![tactic(auto)]
+
 ghost use Rattle.std.specs.Prelude.{◌≡◌};
 ghost use Rattle.model.specs.Call.{Promise};
 ghost use Rattle.subset.specs.Calls.{lent};
