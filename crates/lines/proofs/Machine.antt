@@ -8,12 +8,12 @@ use native.Mathlib.Omega.{arith}
 use native.Mathlib.Nat.{not-suc-le-zero}
 use native.Mathlib.Numerals.{add-one}
 use borrow.Author.Tests.{lt-ltb, le-ltb, le-leb, lt-leb, eq-eqb, ne_eqb, leb-true, leb-false}
-use lib.Dec.{leb, ltb, eqb}
+use lib.Dec.{leb}
 use lib.ListN.{length, take, get_or}
 use lib.Seq.{take-suc}
 use Rattle.model.specs.Res.{both}
 use Rattle.model.specs.Bytes.{Bytes}
-use Rattle.lines.specs.Ids.{State, spoilt, closed, grown, stepped, run, last, given, digit}
+use Rattle.lines.specs.Ids.{State, spoilt, closed, grown, stepped, run, last, given}
 
 pub by : {C : Type 0} (b : Bool) → (b ≡ true → C) → (b ≡ false → C) → C
 by true f g = f refl

@@ -1,5 +1,7 @@
 // The program's text, as bytes in lent slices: the list of ids that it reads, and the lines that it prints.
 // The list is read in pieces, so that standard input may have any length: leading zeros count.
+#![tactic(auto)]
+
 mod print;
 
 ghost use Rattle.std.specs.Prelude.{◌≡◌, List, ℕ, ◌≤◌, min, length};
