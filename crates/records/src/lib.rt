@@ -1,5 +1,11 @@
 // Reading the programs' lists of questions, big-endian, from a file; what is cut reads as 0 or as false.
-ghost use Rattle.std.specs.Prelude.{◌≤◌};
+#![tactic(auto)]
+
+ghost use Rattle.std.specs.Prelude.{◌≤◌, IfOk};
+ghost use Rattle.std.specs.Io.{ReadsAtMost};
+
+use std::io;
+use std::io::Read;
 
 // The 32-bit number at a place; 0 if it is cut.
 pub fn word(b: &[u8], at: usize) -> u32 {
@@ -18,33 +24,48 @@ pub fn size(b: &[u8], at: usize) -> usize
     word(b, at) as usize
 }
 
-// The next n bytes of the file.
-pub fn take_bytes(file: i32, n: usize, bytes: &mut [u8]) -> bool {
-    if bytes.len() < n {
-        return false;
+// Reads until the bytes are full or the file ends, and answers how many it put at their start.
+pub fn read_full<R: Read>(file: &mut R, bytes: &mut [u8]) -> io::Result<usize>
+    ensures { ReadsAtMost result bytes.new }
+{
+    let mut done = 0;
+    while done < bytes.len() {
+        let n = file.read(&mut bytes[done..])?;
+        if n == 0 {
+            break;
+        }
+        done += n;
     }
-    io::read_full(file, &mut bytes[..n]) == n
+    Ok(done)
+}
+
+// The next n bytes of the file.
+pub fn take_bytes<R: Read>(file: &mut R, n: usize, bytes: &mut [u8]) -> io::Result<bool> {
+    if bytes.len() < n {
+        return Ok(false);
+    }
+    Ok(read_full(file, &mut bytes[..n])? == n)
 }
 
 // The next number of the file, of 16 bits; 0 at its end.
-pub fn take_number(file: i32) -> u16 {
+pub fn take_number<R: Read>(file: &mut R) -> io::Result<u16> {
     let mut two = [0u8; 2];
-    let n = io::read_full(file, &mut two);
+    let n = read_full(file, &mut two)?;
     if n < 2 {
-        return 0;
+        return Ok(0);
     }
-    read::u16_at(&two[..n], 0)
+    Ok(read::u16_at(&two[..n], 0))
 }
 
 // The next n of them.
-pub fn take_numbers(file: i32, n: usize, numbers: &mut [u16]) -> bool {
+pub fn take_numbers<R: Read>(file: &mut R, n: usize, numbers: &mut [u16]) -> io::Result<bool> {
     if numbers.len() < n {
-        return false;
+        return Ok(false);
     }
     let mut i = 0;
     while i < n {
-        numbers[i] = take_number(file);
+        numbers[i] = take_number(file)?;
         i += 1;
     }
-    true
+    Ok(true)
 }
