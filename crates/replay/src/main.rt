@@ -1,9 +1,14 @@
 // Asks the public call every question of answers.bin (oracle/README.md has its format) and compares all that comes back with what
 // the crate answered: the answer, every byte of the output and every place of the scratch, those that must not change among them.
+#![tactic(auto)]
+
 use answer::Answer;
+use std::fs::File;
+use std::io;
+use std::io::Read;
 
 // A record's head: the question's sizes, and the answer expected.
-#[derive(Drop)]
+#[derive(Clone, Copy)]
 struct Question {
     index: u32,
     ids: usize,
@@ -138,75 +143,72 @@ fn given(refusal: u32, n: usize) -> usize {
     if refusal == 0 { n } else { 0 }
 }
 
-fn compare(file: i32, q: Question, scratch: &[u16], out: &[u8]) -> bool {
+fn compare<R: Read>(file: &mut R, q: Question, scratch: &[u16], out: &[u8]) -> io::Result<bool> {
     let mut roster = [0u16; 8192];
     let mut bytes = [0u8; 32768];
     let n = given(q.refusal, q.kept);
     let l = given(q.refusal, q.length);
-    if !records::take_numbers(file, n, &mut roster) {
-        return false;
+    if !records::take_numbers(file, n, &mut roster)? {
+        return Ok(false);
     }
-    if !records::take_bytes(file, l, &mut bytes) {
-        return false;
+    if !records::take_bytes(file, l, &mut bytes)? {
+        return Ok(false);
     }
-    same_places(scratch, &roster, n, q.set) && same_bytes(out, &bytes, l)
+    Ok(same_places(scratch, &roster, n, q.set) && same_bytes(out, &bytes, l))
 }
 
 // The rest of the record is read in any case, so that the next one starts where it should.
-fn judge(file: i32, q: Question, font: &[u8], ids: &[u16]) -> bool {
+fn judge<R: Read>(file: &mut R, q: Question, font: &[u8], ids: &[u16]) -> io::Result<bool> {
     let mut scratch = [0u16; 8192];
     let mut out = [0u8; 32768];
     fill_places(&mut scratch);
     fill_bytes(&mut out);
     let told = call(q, font, ids, &mut scratch, &mut out);
-    compare(file, q, &scratch, &out) && told
+    let alike = compare(file, q, &scratch, &out)?;
+    Ok(alike && told)
 }
 
-fn ask(file: i32, q: Question) -> bool {
+fn ask<R: Read>(file: &mut R, q: Question) -> io::Result<bool> {
     let mut ids = [0u16; 1024];
     let mut font = [0u8; 32768];
-    if !records::take_numbers(file, q.ids, &mut ids) {
-        return false;
+    if !records::take_numbers(file, q.ids, &mut ids)? {
+        return Ok(false);
     }
-    if !records::take_bytes(file, q.font, &mut font) {
-        return false;
+    if !records::take_bytes(file, q.font, &mut font)? {
+        return Ok(false);
     }
     judge(file, q, &font, &ids)
 }
 
 // The next record.
-fn same(file: i32) -> bool {
+fn same<R: Read>(file: &mut R) -> io::Result<bool> {
     let mut head = [0u8; 36];
-    let n = io::read_full(file, &mut head);
+    let n = records::read_full(file, &mut head)?;
     ask(file, read_head(&head[..n]))
 }
 
 // How many records there are: the number behind the file's first four bytes.
-fn count(file: i32) -> u32 {
+fn count<R: Read>(file: &mut R) -> io::Result<u32> {
     let mut head = [0u8; 8];
-    let n = io::read_full(file, &mut head);
-    records::word(&head[..n], 4)
+    let n = records::read_full(file, &mut head)?;
+    Ok(records::word(&head[..n], 4))
 }
 
-fn differing(file: i32, answers: u32) -> u32 {
+fn differing<R: Read>(file: &mut R, answers: u32) -> io::Result<u32> {
     let mut differ: u32 = 0;
     let mut k = 0;
     while k < answers {
-        if !same(file) {
+        if !same(file)? {
             differ += 1;
         }
         k += 1;
     }
-    differ
+    Ok(differ)
 }
 
-fn main() {
-    let file = os::open_read(b"answers.bin");
-    let answers = count(file);
-    let differ = differing(file, answers);
-    libc::close(file);
-    io::print_decimal(libc::STDOUT_FILENO, answers as u64);
-    io::write_all(libc::STDOUT_FILENO, b" answers, ");
-    io::print_decimal(libc::STDOUT_FILENO, differ as u64);
-    io::write_all(libc::STDOUT_FILENO, b" differ\n");
+fn main(rt: HostRuntime) -> io::Result<()> {
+    let mut file = File::open(&rt, "answers.bin")?;
+    let answers = count(&mut file)?;
+    let differ = differing(&mut file, answers)?;
+    println!(rt; "{answers} answers, {differ} differ")
 }
