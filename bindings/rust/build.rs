@@ -1,5 +1,5 @@
 //! Links the proved archive, libpitavele_c.a: PITAVELE_LIB names it, else it is the repository's
-//! (`rt staticlib` leaves the one for x86-64, tools/native-staticlib the one for Arm).
+//! (tools/archive leaves the one for x86-64, tools/native-staticlib the one for Arm).
 use std::env;
 use std::path::{Path, PathBuf};
 use std::process::exit;
