@@ -433,7 +433,8 @@ fn find_earlier(name: &[u8], firsts: &[u16], order: &[u16], used: usize, row: us
             }
         }
     }
-    if low < high {
+    let there = low < high;
+    if there {
         Found::At(order[middle] as usize)
     } else {
         Found::Nowhere(low)

@@ -1,20 +1,17 @@
 -- The tests of each function decide its answer: one law for each way to a `return`, in the code's numbers.
 use mathlib.Core.Path.{◌≡◌, ap, ◌∙◌}
 use mathlib.Core.Bool.{Bool, true, false}
-use Prim.Native.Nat.{ℕ, suc, ◌+◌, ◌*◌, ◌≤◌, ◌<◌}
+use Prim.Native.Nat.{ℕ, ◌+◌, ◌*◌, ◌≤◌, ◌<◌}
 use native.Mathlib.Omega.{arith}
 use native.Mathlib.Nat.{one-mul, add-zero}
-use lib.Dec.{leb}
-use lib.ListN.{length, drop}
-use borrow.Author.Tests.{lt-ltb, le-ltb, le-leb, lt-leb, eq-eqb, ne_eqb, leb-true, leb-false}
+use lib.ListN.{drop}
+use borrow.Author.Tests.{lt-ltb, le-ltb}
 use Rattle.model.specs.Res.{pick}
 use Rattle.model.specs.Bytes.{Bytes, word16, word32, flag, holds}
 use Rattle.model.specs.Glyf.{Width, short, long, entry, entry_size}
 use Rattle.model.specs.Outline.{record_size}
 use Rattle.model.proofs.Bytes.{word16-drop, word32-drop}
-use Rattle.outline.specs.Places.{span_at, shape_of, component_at}
-use Rattle.outline.specs.declared.Span.TheVariants as span
-use Rattle.outline.specs.declared.Shape.TheVariants as shape
+use Rattle.outline.specs.Places.{component_at}
 use Rattle.outline.specs.declared.Component.TheVariants as component
 
 -- a record's parts are short
@@ -40,46 +37,6 @@ entry-long loca i = one-mul (word32 (drop (4 * i) loca) 0) ∙ word32-drop loca 
 
 pub entry-short : (loca : Bytes) (i : ℕ) → entry short loca i ≡ 2 * word16 loca (2 * i)
 entry-short loca i = ap (λ (x : ℕ). 2 * x) (word16-drop loca (2 * i) 0 ∙ ap (λ (k : ℕ). word16 loca k) (add-zero (2 * i)))
-
-module _ (w : Width) (loca glyf : Bytes) (g start end : ℕ) (is-start : start ≡ entry w loca g) (is_end : end ≡ entry w loca (g + 1)) where
-  next-entry : end ≡ entry w loca (suc g)
-  next-entry = is_end ∙ ap (λ (k : ℕ). entry w loca k) (omega arith)
-
-  pub span_descends : end < start → span_at w loca glyf g ≡ span.Bad
-  unfolding span_at
-  span_descends h = rw (← is-start, ← next-entry, lt-leb start end h)
-
-  pub span_past : start ≤ end → length glyf < end → span_at w loca glyf g ≡ span.Bad
-  unfolding span_at
-  span_past h k = rw (← is-start, ← next-entry, le-leb start end h, lt-leb end (length glyf) k)
-
-  pub span_there : start ≤ end → end ≤ length glyf → span_at w loca glyf g ≡ span.At start end
-  unfolding span_at
-  span_there h k = rw (← is-start, ← next-entry, le-leb start end h, le-leb end (length glyf) k)
-
-module _ (b : Bytes) where
-  pub shape_empty : length b ≡ 0 → shape_of b ≡ shape.Empty
-  unfolding shape_of
-  shape_empty h = rw (eq-eqb (length b) 0 h)
-
-  module _ (some : length b ≡ 0 → ⊥) where
-    pub shape_one : length b < 2 → shape_of b ≡ shape.Bad
-    unfolding shape_of
-    shape_one h = rw (ne_eqb (length b) 0 some, lt-leb (0 + 2) (length b) (omega arith))
-
-    module _ (two : 2 ≤ length b) where
-      pub shape-simple : leb 0x8000 (word16 b 0) ≡ false → shape_of b ≡ shape.Simple
-      unfolding shape_of
-      shape-simple h = rw (ne_eqb (length b) 0 some, le-leb (0 + 2) (length b) (omega arith), lt-ltb (word16 b 0) 0x8000 (leb-false 0x8000 (word16 b 0) h))
-
-      module _ (negative : leb 0x8000 (word16 b 0) ≡ true) where
-        pub shape-cut : length b < 10 → shape_of b ≡ shape.Bad
-        unfolding shape_of
-        shape-cut h = rw (ne_eqb (length b) 0 some, le-leb (0 + 2) (length b) (omega arith), le-ltb (word16 b 0) 0x8000 (leb-true 0x8000 (word16 b 0) negative), lt-leb (0 + 10) (length b) (omega arith))
-
-        pub shape-composite : 10 ≤ length b → shape_of b ≡ shape.Composite
-        unfolding shape_of
-        shape-composite h = rw (ne_eqb (length b) 0 some, le-leb (0 + 2) (length b) (omega arith), le-ltb (word16 b 0) 0x8000 (leb-true 0x8000 (word16 b 0) negative), le-leb (0 + 10) (length b) (omega arith))
 
 module _ (n : ℕ) (b : Bytes) (at : ℕ) where
   pub component_headless : holds b at 4 ≡ false → component_at n b at ≡ component.Bad

@@ -58,6 +58,7 @@ fn entry_at(loca: &[u8], long: bool, i: usize) -> usize
 }
 
 // "loca's two offsets; past glyf or descending: 3".
+#[tactic(auto, unfolding(crate::specs::Places::span_at))]
 pub fn locate(loca: &[u8], glyf: &[u8], long: bool, g: usize) -> Span
     requires { entry_size (width long) * (g + 2) ≤ length loca.now }
     ensures { result ≡ span_at (width long) loca.now glyf.now g }
@@ -74,6 +75,7 @@ pub fn locate(loca: &[u8], glyf: &[u8], long: bool, g: usize) -> Span
 }
 
 // "Empty is fine. Otherwise the first signed word; 1 byte is 3. Negative means composite: 10 header bytes".
+#[tactic(auto, unfolding(crate::specs::Places::shape_of))]
 pub fn shape_of(b: &[u8]) -> Shape
     ensures { result ≡ shape_of b.now }
 {

@@ -104,18 +104,6 @@ length-new_hhea hhea k h = simp (length-append, length-take) (omega arith)
 pub length-new_maxp : (maxp : Bytes) (n : ℕ) → 6 ≤ length maxp → length (new_maxp maxp n) ≡ length maxp
 length-new_maxp maxp n h = simp length-drop (omega arith)
 
--- loca's length, as the code adds it up
-entries_in : (w : Width) (kept : ℕ) → entry_size w * kept + entry_size w ≡ entry_size w * (kept + 1)
-entries_in short kept = omega arith
-entries_in long kept = omega arith
-
--- the plan by the new loca's width
-pub planned_by : (t : Places) (kept : ℕ) (z : Sums) (count hmtx name post : ℕ) (wide : Bool) (sized : Places) → wide ≡ ltb 131070 z.even
-    → sized ≡ sized_by t (pick wide z.raw z.even) hmtx (entry_size (width wide) * kept + entry_size (width wide)) name post
-    → record { fits = true; refusal = 0; count = count; wide = wide; sized = sized } ≡ plan_of t kept z count hmtx name post
-unfolding plan_of
-planned_by t kept z count hmtx name post wide sized e q = rw (q, entries_in (width wide) kept, e)
-
 -- what every measure found
 module _ (font : Bytes) (s : Source) (scratch : List ℕ) (kept : ℕ) (o : Opens font s) (w : Walked font s scratch kept) where
   pub readable : Readable (width s.long) s.n (font_of font s).loca (font_of font s).glyf (take kept scratch)

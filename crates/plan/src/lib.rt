@@ -144,6 +144,7 @@ fn refused(s: Source, k: u32) -> Plan
 }
 
 // All measures passed: the new loca's width follows from the outlines' lengths, and every length is known.
+#[tactic(auto, unfolding(crate::specs::Steps::plan_of))]
 fn plan_sizes(
     t: Tables,
     kept: usize,

@@ -50,7 +50,8 @@ fn rewrite(
     }
     let new = construct::lay_out(p.sized);
     let end = new.end;
-    if 4294967295 < end {
+    let long = 4294967295 < end;
+    if long {
         return Answer::No(5);
     }
     if out.len() < end {

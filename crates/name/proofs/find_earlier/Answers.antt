@@ -31,8 +31,8 @@ earlier-preserved c =
     let h = halved l.low l.high c.earlier-test.true in
     rw c.loop-k.invariant.1 (turn-greater r.args.name.now r.args.firsts.now r.args.order.now r.args.used r.args.row r.requires l.low l.high l.invariant _ h.0 h.1 c.length_at-length.result c.length_at-size.result c.length_at-length.ensures.0 c.length_at-size.ensures.0 (omega arith) c.start_at-at.result c.start_at-start.result c.loop-k.k c.start_at-at.ensures.0 c.start_at-start.ensures.0 c.loop-k.invariant.0 (omega (arith, c.loop-k.invariant.0.within)) c.if-name-start.true)
 
-pub returns-then-low-high : goal.returns-then-low-high
-returns-then-low-high c =
+pub returns-then-there : goal.returns-then-there
+returns-then-there c =
     let r = c in
     let l = c.earlier in
     elim c.earlier-test.branch [

@@ -43,8 +43,8 @@ returns-then-not-narrow c =
     let n = c.narrow.ensures.one c.if-not-narrow.true in
     rewrite-long T a.s.n a.kept a.scratch.now z a.out.now p v f pieces (omega (arith, file-holds T (take a.kept a.scratch.now) p (v.found f) o.long.head n.0 n.1, n.2))
 
-pub returns-then-end-gt4294967295 : goal.returns-then-end-gt4294967295
-returns-then-end-gt4294967295 c =
+pub returns-then-long : goal.returns-then-long
+returns-then-long c =
     let a = c.args in
     let o = c.requires.0 in
     let w = c.requires.1 in
@@ -56,7 +56,7 @@ returns-then-end-gt4294967295 c =
     let pieces = pieces-fine a.font.now a.s a.scratch.now a.kept o w in
     let e = c.lay_out-new.ensures in
     let l = file-length T (take a.kept a.scratch.now) p (v.found f) o.long.head ∙ ap (λ (x : Layout). x.end) (sym e) in
-    rewrite-long T a.s.n a.kept a.scratch.now z a.out.now p v f pieces (omega (arith, l, c.if-end-gt4294967295.true))
+    rewrite-long T a.s.n a.kept a.scratch.now z a.out.now p v f pieces (omega (arith, l))
 
 pub returns-then-out-end : goal.returns-then-out-end
 returns-then-out-end c =
@@ -71,7 +71,7 @@ returns-then-out-end c =
     let pieces = pieces-fine a.font.now a.s a.scratch.now a.kept o w in
     let e = c.lay_out-new.ensures in
     let l = file-length T (take a.kept a.scratch.now) p (v.found f) o.long.head ∙ ap (λ (x : Layout). x.end) (sym e) in
-    rewrite-short T a.s.n a.kept a.scratch.now z a.out.now p v f pieces _ l c.if-end-gt4294967295.false c.if-out-end.true
+    rewrite-short T a.s.n a.kept a.scratch.now z a.out.now p v f pieces _ l (omega arith) c.if-out-end.true
 
 pub write_file-requires : goal.write_file-requires
 write_file-requires c =
@@ -83,7 +83,7 @@ write_file-requires c =
     let p = c.measure-p.result in
     let z = c.measure-p.new.scratch in
     let f = not-false p.fits c.if-not-p.false in
-    (writes_from a.font.now a.s a.scratch.now a.kept o w z p v f _ c.lay_out-new.ensures c.if-end-gt4294967295.false, c.if-out-end.false)
+    (writes_from a.font.now a.s a.scratch.now a.kept o w z p v f _ c.lay_out-new.ensures (omega arith), c.if-out-end.false)
 
 pub returns : goal.returns
 returns c =
@@ -99,4 +99,4 @@ returns c =
     let e = c.lay_out-new.ensures in
     let l = file-length T (take a.kept a.scratch.now) p (v.found f) o.long.head ∙ ap (λ (x : Layout). x.end) (sym e) in
     let r = roster_stays a.font.now a.s a.scratch.now z a.kept o w v.untouched in
-    rewrite-done T a.s.n a.kept a.scratch.now z a.out.now p v f pieces _ l c.if-end-gt4294967295.false c.if-out-end.false (size a.font.now a.s a.scratch.now a.kept o w) _ (c.write_file.ensures ∙ ap (λ (q : List ℕ). over (file (entries (renewed T q))) a.out.now) r)
+    rewrite-done T a.s.n a.kept a.scratch.now z a.out.now p v f pieces _ l (omega arith) c.if-out-end.false (size a.font.now a.s a.scratch.now a.kept o w) _ (c.write_file.ensures ∙ ap (λ (q : List ℕ). over (file (entries (renewed T q))) a.out.now) r)
