@@ -54,8 +54,12 @@ fn read_list<R: Read>(input: &mut R, ids: &mut [u16]) -> io::Result<Listed>
     Ok(lines::finish(s, ids))
 }
 
-fn save<R: Files>(rt: &R, file: &[u8]) -> io::Result<()> {
-    fs::write(rt, "subset.ttf", file)
+// A file that can't be written is told on standard error; the roster is printed all the same.
+fn save<R: Files + Eprint>(rt: &R, file: &[u8]) -> io::Result<()> {
+    match fs::write(rt, "subset.ttf", file) {
+        Ok(()) => Ok(()),
+        Err(error) => eprintln!(rt; "subset.ttf: {error}"),
+    }
 }
 
 fn print_kept<R: Print>(rt: &R, roster: &[u16], size: usize) -> io::Result<()>
@@ -73,7 +77,7 @@ fn print_refused<R: Print>(rt: &R, k: u32) -> io::Result<()> {
 }
 
 // "lends 8,192 scratch numbers and 32,768 output bytes; on success writes subset.ttf; prints."
-fn cut<R: Files + Print>(rt: &R, font: &[u8], ids: &[u16]) -> io::Result<()> {
+fn cut<R: Files + Print + Eprint>(rt: &R, font: &[u8], ids: &[u16]) -> io::Result<()> {
     let mut scratch = [0u16; 8192];
     let mut out = [0u8; 32768];
     match subset::subset(font, 0, ids, &mut scratch, &mut out) {
