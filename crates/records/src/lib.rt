@@ -1,7 +1,7 @@
 // Reading the programs' lists of questions, big-endian, from a file; what is cut reads as 0 or as false.
 #![tactic(auto)]
 
-ghost use Rattle.std.specs.Prelude.{◌≤◌, IfOk};
+ghost use Rattle.std.specs.Prelude.{◌≡◌, ◌≤◌, IfOk, length};
 ghost use Rattle.std.specs.Io.{ReadsAtMost};
 
 use std::io;
@@ -24,9 +24,11 @@ pub fn size(b: &[u8], at: usize) -> usize
     word(b, at) as usize
 }
 
-// Reads until the bytes are full or the file ends, and answers how many it put at their start.
+// Reads until the bytes are full or the file ends, and answers how many it put at their start. The only error is a read's; it leaves
+// in the bytes what was read before it, and the rest as it was.
 pub fn read_full<R: Read>(file: &mut R, bytes: &mut [u8]) -> io::Result<usize>
-    ensures { ReadsAtMost result bytes.new }
+    ensures at_most { ReadsAtMost result bytes.new }
+    ensures same_length { length bytes.new ≡ length bytes.old }
 {
     let mut done = 0;
     while done < bytes.len() {
@@ -39,8 +41,10 @@ pub fn read_full<R: Read>(file: &mut R, bytes: &mut [u8]) -> io::Result<usize>
     Ok(done)
 }
 
-// The next n bytes of the file.
-pub fn take_bytes<R: Read>(file: &mut R, n: usize, bytes: &mut [u8]) -> io::Result<bool> {
+// The next n bytes of the file. The only error is a read's, here and below.
+pub fn take_bytes<R: Read>(file: &mut R, n: usize, bytes: &mut [u8]) -> io::Result<bool>
+    ensures { length bytes.new ≡ length bytes.old }
+{
     if bytes.len() < n {
         return Ok(false);
     }
@@ -58,7 +62,9 @@ pub fn take_number<R: Read>(file: &mut R) -> io::Result<u16> {
 }
 
 // The next n of them.
-pub fn take_numbers<R: Read>(file: &mut R, n: usize, numbers: &mut [u16]) -> io::Result<bool> {
+pub fn take_numbers<R: Read>(file: &mut R, n: usize, numbers: &mut [u16]) -> io::Result<bool>
+    ensures { length numbers.new ≡ length numbers.old }
+{
     if numbers.len() < n {
         return Ok(false);
     }
