@@ -1,6 +1,8 @@
 // maxp of the smaller font: its version and glyph count anew, the rest copied (the crate's maxp.rs).
 // Document 01: "0x00010000, N, old bytes from 6". The version is 1.0 whatever the old one was; step 3 has
 // refused a maxp of under 6 bytes.
+#![tactic(auto)]
+
 ghost use Rattle.std.specs.Prelude.{◌≡◌, ◌≤◌, length};
 ghost use Rattle.model.specs.Bytes.{over};
 ghost use Rattle.model.specs.Cut.{new_maxp};
