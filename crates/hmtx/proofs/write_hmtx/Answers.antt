@@ -34,13 +34,4 @@ write_metrics-requires-clause-count_in_bounds c =
 pub write_metrics-requires-clause-room : goal.write_metrics-requires-clause-room
 write_metrics-requires-clause-room c =
     let a = c.args in
-    let p = c.requires in
-    let r = metrics-ready a.hhea.now a.hmtx.now a.roster.now c.u16_at.result c.u16_at.ensures p.roster_value (omega arith) (omega arith) in
-    let ms = metrics_at a.hmtx.now c.u16_at.result a.roster.now in
-    let l : length ms ≡ length a.roster.now = length-metrics_at a.hmtx.now c.u16_at.result a.roster.now in
-    let e : a.count ≡ new_count ms = rw r.same at p.count_value in
-    let some : 0 < length ms = omega arith in
-    let most : a.count ≤ length ms = rw e (new_count-most ms some) in
-    let n : length (new_hmtx a.count ms) ≡ 2 * length ms + 2 * a.count = length-new_hmtx a.count ms most in
-    let room : length (new_hmtx a.count ms) ≤ length a.out.now = rw r.same at p.roster_in_bounds in
-    r.room
+    (metrics-ready a.hhea.now a.hmtx.now a.roster.now c.u16_at.result c.u16_at.ensures c.requires.roster_value (omega arith) (omega arith)).room
