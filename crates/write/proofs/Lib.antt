@@ -1,1 +1,1 @@
-pub mod Copies
+pub mod Placing
