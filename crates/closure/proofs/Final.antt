@@ -1,11 +1,5 @@
 -- The whole: the requests, then all turns, are the walk; and that it is the model's walk of a font's tables.
-use mathlib.Core.Path.{◌≡◌, refl, sym, ap, ◌∙◌, subst}
-use mathlib.Core.Bool.{false}
-use mathlib.Core.List.{List, [], ◌∷◌, reverse}
-use Prim.Native.Nat.{ℕ, ◌+◌, ◌*◌, ◌≤◌}
-use native.Mathlib.Omega.{arith}
-use lib.ListN.{length, drop}
-use borrow.Author.Tests.{eq-eqb, ne_eqb}
+use Rattle.std.proofs.Common.{◌≡◌, refl, sym, ap, ◌∙◌, subst, false, List, [], ◌∷◌, reverse, ℕ, ◌+◌, ◌*◌, ◌≤◌, arith, length, drop, eq-eqb, ne_eqb, Result, Ok, Err}
 use Rattle.model.specs.Res.{Res, refuse, ok, map_res, ◌>>=◌}
 use Rattle.model.specs.Bytes.{Bytes}
 use Rattle.model.specs.Font.{Tables}
@@ -19,49 +13,42 @@ use Rattle.model.proofs.Start.{thin}
 use Rattle.model.proofs.Yields.{yields_bind, yields_map, yields_weaken}
 use Rattle.model.proofs.Outlines.{Few, Parts, outline_yield, bytes_yield}
 use Rattle.model.proofs.Closure.{few-ids, widths-few}
+use Rattle.glyf.specs.Pieces.{length_at}
 use Rattle.remapper.specs.Scratch.{started, Sweepable}
-use Rattle.remapper.specs.State.{Walking, Rostered, Counts, Numbering}
-use Rattle.remapper.specs.declared.Count.TheVariants as numbered
+use Rattle.remapper.specs.State.{Walking, Rostered, Counts}
+use Rattle.answer.specs.declared.Refusal.{Refusal}
+use Rattle.answer.specs.declared.Refusal.TheVariants.{MalformedFont}
 use Rattle.remapper.proofs.Fills.{walking-started, past-started}
 use Rattle.remapper.proofs.Clears.{walking_sweepable}
-use Rattle.closure.specs.Closes.{parts_in, walk_in, Offsets, closed_of, totals, Closes}
+use Rattle.closure.specs.Closes.{parts_in, walk_in, Offsets, totals, Closes}
 use Rattle.closure.specs.Turns.{Summed, Ends, Ran, asks, Numbered}
-use Rattle.closure.specs.declared.Closed.{Closed}
-use Rattle.closure.specs.declared.Closed.TheVariants.{Kept, No}
+use Rattle.closure.specs.declared.Kept.{Kept}
 use Rattle.closure.proofs.Requests.{begun, seed-asks}
 
 -- before the requests
 pub started_walks : (n : ℕ) (s s₁ : List ℕ) → (n ≡ 0 → ⊥) → n ≤ 65536 → 4 * n ≤ length s → s₁ ≡ started n s → Walking n s₁ (0 ∷ []) []
 started_walks n s s₁ some few size e = subst (λ (t : List ℕ). Walking n t (0 ∷ []) []) (sym e) (walking-started n s (omega arith) size few)
 
--- and behind them
-pub numbered-all : (n : ℕ) (qs s₁ s₂ : List ℕ) (count : ℕ) → Numbered n qs s₁ s₂ (numbered.Of count) → Numbering n s₂ count
-numbered-all n qs s₁ s₂ count v = go (asks n (0 ∷ []) qs) v.counts
-  where
-    go : (m : Res (List ℕ)) → Counts n s₂ (numbered.Of count) m → Numbering n s₂ count
-    go (ok r) c = (r, c.0, c.1)
-    go (refuse j) c = absurd c
-
 -- a walk that ends, and alike by moving to the top; the sums are over its roster
 module _ (parts : ℕ → Res (List ℕ)) (lengths : ℕ → ℕ) (turns n : ℕ) (qs : List ℕ) (alike : Alike parts turns (begin n qs)) (small : n ≤ 65536) where
-  closes : (s s' : List ℕ) (a : Closed) (v : Walk) → run parts turns (begin n qs) ≡ v → Ends lengths n s' a v → drop (4 * n) s' ≡ drop (4 * n) s
+  closes : (s s' : List ℕ) (a : Result Kept Refusal) (v : Walk) → run parts turns (begin n qs) ≡ v → Ends lengths n s' a v → drop (4 * n) s' ≡ drop (4 * n) s
       → Closes lengths (walk turns n parts qs) n s s' a
   unfolding walk
   closes s s' a v e f p = subst (λ v. Closes lengths (ended v) n s s' a) (sym e) (go a v f)
     where
-      total : (k even raw : ℕ) (r : List ℕ) → k ≡ length r → Summed lengths r even raw → closed_of (Kept k even raw) ≡ ok (totals lengths r)
+      total : (k even raw : ℕ) (r : List ℕ) → k ≡ length r → Summed lengths r even raw → ok (k, even, raw) ≡ ok (totals lengths r)
       total k even raw r e z = rw (e, z.is_even, z.is_raw)
 
-      go : (a : Closed) (v : Walk) → Ends lengths n s' a v → Closes lengths (ended v) n s s' a
-      go (Kept k even raw) (going r st) f = absurd f
-      go (Kept k even raw) (kept r) f = record { answer = total k even raw r f.1 f.2; scratch = λ r' q. subst (Rostered n s') (ok_inj q) f.0.rostered; sweepable = λ r' q. subst (λ (r : List ℕ). Sweepable n s' (length r) false) (ok_inj q) (walking_sweepable n s' r small f.0); past = p }
-      go (Kept k even raw) (refused j) f = absurd f
-      go (No k) (going r st) f = absurd f
-      go (No k) (kept r) f = absurd f
-      go (No k) (refused j) f = record { answer = ap refuse f; scratch = λ r q. ok-refuse (sym q); sweepable = λ r q. ok-refuse (sym q); past = p }
+      go : (a : Result Kept Refusal) (v : Walk) → Ends lengths n s' a v → Closes lengths (ended v) n s s' a
+      go (Ok k) (going r st) f = absurd f
+      go (Ok k) (kept r) f = record { answer = total k.kept k.even k.raw r f.1 f.2; scratch = λ r' q. subst (Rostered n s') (ok_inj q) f.0.rostered; sweepable = λ r' q. subst (λ (r : List ℕ). Sweepable n s' (length r) false) (ok_inj q) (walking_sweepable n s' r small f.0); past = p }
+      go (Ok k) (refused j) f = absurd f
+      go (Err e) (going r st) f = absurd f
+      go (Err e) (kept r) f = absurd f
+      go (Err e) (refused j) f = record { answer = ap refuse f; scratch = λ r q. ok-refuse (sym q); sweepable = λ r q. ok-refuse (sym q); past = p }
 
-  pub closes-none : n ≡ 0 → (s : List ℕ) → Closes lengths (walk turns n parts qs) n s s (No 3)
-  closes-none e s = closes s s (No 3) (refused 3) (ap (run parts turns) none ∙ run-done parts turns (refused 3) tt) refl refl
+  closes-none : n ≡ 0 → (s : List ℕ) → Closes lengths (walk turns n parts qs) n s s (Err MalformedFont)
+  closes-none e s = closes s s (Err MalformedFont) (refused 3) (ap (run parts turns) none ∙ run-done parts turns (refused 3) tt) refl refl
     where
       none : begin n qs ≡ refused 3
       none = unfold begin in rw (eq-eqb n 0 e)
@@ -77,17 +64,17 @@ module _ (parts : ℕ → Res (List ℕ)) (lengths : ℕ → ℕ) (turns n : ℕ
         first : begin n qs ≡ begun (asks n (0 ∷ []) qs)
         first = unfold begin in rw (ne_eqb n 0 some) (seed-asks n (0 ∷ []) qs)
 
-    pub closes-no : (k : ℕ) → Numbered n qs s₁ s₂ (numbered.No k) → Closes lengths (walk turns n parts qs) n s s₂ (No k)
-    closes-no k v = go (asks n (0 ∷ []) qs) refl v.counts
+    closes-no : (e : Refusal) → Numbered n qs s₁ s₂ (Err e) → Closes lengths (walk turns n parts qs) n s s₂ (Err e)
+    closes-no e v = go (asks n (0 ∷ []) qs) refl v.counts
       where
-        go : (m : Res (List ℕ)) → asks n (0 ∷ []) qs ≡ m → Counts n s₂ (numbered.No k) m → Closes lengths (walk turns n parts qs) n s s₂ (No k)
-        go (ok r) e c = absurd c
-        go (refuse j) e c = closes s s₂ (No k) (refused j) (whole (refuse j) e ∙ run_t_done parts turns (refused j) tt) c (v.past ∙ past₁)
+        go : (m : Res (List ℕ)) → asks n (0 ∷ []) qs ≡ m → Counts n s₂ (Err e) m → Closes lengths (walk turns n parts qs) n s s₂ (Err e)
+        go (ok r) q c = absurd c
+        go (refuse j) q c = closes s s₂ (Err e) (refused j) (whole (refuse j) q ∙ run_t_done parts turns (refused j) tt) c (v.past ∙ past₁)
 
-    pub closes-run : (count : ℕ) (s₃ : List ℕ) (a : Closed) → Numbered n qs s₁ s₂ (numbered.Of count) → Ran parts lengths n s₂ s₃ count a → Closes lengths (walk turns n parts qs) n s s₃ a
+    closes-run : (count : ℕ) (s₃ : List ℕ) (a : Result Kept Refusal) → Numbered n qs s₁ s₂ (Ok count) → Ran parts lengths n s₂ s₃ count a → Closes lengths (walk turns n parts qs) n s s₃ a
     closes-run count s₃ a v t = go (asks n (0 ∷ []) qs) refl v.counts
       where
-        go : (m : Res (List ℕ)) → asks n (0 ∷ []) qs ≡ m → Counts n s₂ (numbered.Of count) m → Closes lengths (walk turns n parts qs) n s s₃ a
+        go : (m : Res (List ℕ)) → asks n (0 ∷ []) qs ≡ m → Counts n s₂ (Ok count) m → Closes lengths (walk turns n parts qs) n s s₃ a
         go (refuse j) e c = absurd c
         go (ok r) e c =
             let same = whole (ok r) e in
@@ -104,7 +91,7 @@ module _ (w : Width) (n : ℕ) (loca glyf : Bytes) where
       (λ b h. yields_weaken (outline_yield n b) (λ o q. (q.0, omega (arith, q.1)))))
       (λ o q. q))
 
-  pub alike_in : (qs : List ℕ) → Alike (parts_in w n loca glyf) (2 + length qs + n * length glyf) (begin n qs)
+  alike_in : (qs : List ℕ) → Alike (parts_in w n loca glyf) (2 + length qs + n * length glyf) (begin n qs)
   alike_in qs =
       thin (2 + length qs + n * length glyf) n (parts_in w n loca glyf) qs (λ g h c m. (parts-few g).0 c m)
       (omega (arith, widths-few n (length glyf) (parts_in w n loca glyf) (λ g. (parts-few g).1)))
@@ -121,3 +108,19 @@ glyphs-small w loca = omega arith
 pub glyphs-offsets : (w : Width) (loca : Bytes) → Offsets w (glyphs w loca) loca
 glyphs-offsets short loca h = omega arith
 glyphs-offsets long loca h = omega arith
+
+-- and so it is the walk over loca and glyf
+module _ (w : Width) (n : ℕ) (loca glyf : Bytes) (qs : List ℕ) (small : n ≤ 65536) where
+  pub over-none : n ≡ 0 → (s : List ℕ) → Closes (length_at w n loca glyf) (walk_in w n loca glyf qs) n s s (Err MalformedFont)
+  unfolding walk_in
+  over-none = closes-none (parts_in w n loca glyf) (length_at w n loca glyf) (2 + length qs + n * length glyf) n qs (alike_in w n loca glyf qs) small
+
+  module _ (some : n ≡ 0 → ⊥) (s : List ℕ) (size : 4 * n ≤ length s) (s₁ : List ℕ) (is-s₁ : s₁ ≡ started n s) (s₂ : List ℕ) where
+    pub over-no : (e : Refusal) → Numbered n qs s₁ s₂ (Err e) → Closes (length_at w n loca glyf) (walk_in w n loca glyf qs) n s s₂ (Err e)
+    unfolding walk_in
+    over-no = closes-no (parts_in w n loca glyf) (length_at w n loca glyf) (2 + length qs + n * length glyf) n qs (alike_in w n loca glyf qs) small some s size s₁ is-s₁ s₂
+
+    pub over-run : (count : ℕ) (s₃ : List ℕ) (a : Result Kept Refusal) → Numbered n qs s₁ s₂ (Ok count) → Ran (parts_in w n loca glyf) (length_at w n loca glyf) n s₂ s₃ count a
+        → Closes (length_at w n loca glyf) (walk_in w n loca glyf qs) n s s₃ a
+    unfolding walk_in
+    over-run = closes-run (parts_in w n loca glyf) (length_at w n loca glyf) (2 + length qs + n * length glyf) n qs (alike_in w n loca glyf qs) small some s size s₁ is-s₁ s₂

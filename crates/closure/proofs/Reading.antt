@@ -1,21 +1,16 @@
 -- Reading an outline: the ids read so far were offered, and with those from the place on they are all of its ids; its end is the one from the place on.
-use mathlib.Core.Path.{◌≡◌, refl, sym, ap, ◌∙◌, subst}
-use mathlib.Core.Bool.{Bool}
-use mathlib.Core.List.{List, [], ◌∷◌, ◌++◌}
-use Prim.Native.Nat.{ℕ, ◌+◌, ◌*◌, ◌-◌, ◌≤◌, ◌<◌}
-use native.Mathlib.Omega.{arith}
-use lib.ListN.{length, drop}
+use Rattle.std.proofs.Common.{◌≡◌, refl, sym, ap, ◌∙◌, subst, Bool, Option, None, Some, List, [], ◌∷◌, ◌++◌, ℕ, ◌*◌, ◌<◌, length, drop}
 use lib.Seq.{append_snoc}
 use Rattle.model.specs.Res.{Res, refuse, ok, pick, map_res, value_of}
-use Rattle.model.specs.Bytes.{Bytes, part, member}
-use Rattle.model.specs.Glyf.{Width, short, long, entry_size}
+use Rattle.model.specs.Bytes.{Bytes, member}
+use Rattle.model.specs.Glyf.{Width}
 use Rattle.model.specs.Outline.{outline, components}
 use Rattle.model.proofs.Members.{In, clash, in_here, in_there}
 use Rattle.model.proofs.Thin.{without, to_top}
-use Rattle.outline.specs.Places.{ids_from, end_from, kept_length, component_at, shape_of, span_at}
+use Rattle.outline.specs.Places.{ids_from, end_from, kept_length, component_at, shape_of, span_at, span_bytes}
 use Rattle.outline.specs.declared.Component.TheVariants as component
 use Rattle.outline.specs.declared.Shape.{Shape}
-use Rattle.outline.specs.declared.Span.TheVariants as span
+use Rattle.outline.specs.declared.Span.{Span}
 use Rattle.outline.proofs.Records.{ids_bad, ids_more, ids-last, end_bad, end_more, end_last, taken_more, taken-last}
 use Rattle.outline.proofs.Glyphs.{parts_of_lem, parts_by, kept_by_lem, kept_by}
 use Rattle.glyf.specs.Pieces.{outline_at, length_at}
@@ -24,10 +19,8 @@ use Rattle.remapper.specs.Scratch.{offered, Linked}
 use Rattle.remapper.specs.State.{Walking}
 use Rattle.remapper.proofs.Waiting.{linked-offered, keeps-offered}
 use Rattle.remapper.proofs.Numbering.{low_snoc, walking_offered}
-use Rattle.closure.specs.Closes.{parts_in, Offsets}
+use Rattle.closure.specs.Closes.{parts_in}
 use Rattle.closure.specs.Turns.{offered_all, read_of, kept_of, Opened}
-use Rattle.closure.specs.declared.Read.{Read}
-use Rattle.closure.specs.declared.Read.TheVariants.{Kept, Bad}
 
 pub record Reading (b s₀ : List ℕ) (n : ℕ) (s : List ℕ) (at : ℕ) : Type 0 where
   pub cs : List ℕ
@@ -46,9 +39,6 @@ map_snoc : (cs : List ℕ) (c : ℕ) (m : Res (List ℕ)) → map_res (λ (l : L
 map_snoc cs c (refuse k) = refl
 map_snoc cs c (ok l) = ap ok (sym (append_snoc cs c l))
 
-pub reading_start : (b s : List ℕ) (n : ℕ) → Linked n s → Reading b s n s 10
-reading_start b s n h = record { cs = []; gone = refl; low = λ c m. clash m refl; left = map_same (ids_from n b 10); ends = refl; linked = h; size = refl }
-
 offered_all_snoc : (n : ℕ) (s cs : List ℕ) (c : ℕ) → offered_all n s (cs ++ (c ∷ [])) ≡ offered n (offered_all n s cs) c
 offered_all_snoc n s [] c = refl
 offered_all_snoc n s (x ∷ cs) c = offered_all_snoc n (offered n s x) cs c
@@ -57,7 +47,7 @@ module _ (b s₀ : List ℕ) (n : ℕ) (s : List ℕ) (at : ℕ) (v : Reading b 
   offered-last : (s' : List ℕ) (id : ℕ) → s' ≡ offered n s id → s' ≡ offered_all n s₀ (v.cs ++ (id ∷ []))
   offered-last s' id e = e ∙ ap (λ (t : List ℕ). offered n t id) v.gone ∙ sym (offered_all_snoc n s₀ v.cs id)
 
-  pub reading_more : (s' : List ℕ) (id next : ℕ) → component_at n b at ≡ component.More id next → s' ≡ offered n s id → Reading b s₀ n s' next
+  pub reading_more : (s' : List ℕ) (id next : ℕ) → component_at n b at ≡ Some (component.More id next) → s' ≡ offered n s id → Reading b s₀ n s' next
   reading_more s' id next e q =
       record {
         cs = v.cs ++ (id ∷ []);
@@ -72,8 +62,8 @@ module _ (b s₀ : List ℕ) (n : ℕ) (s : List ℕ) (at : ℕ) (v : Reading b 
       k : id < n
       k = (taken_more n b at e).low
 
-  pub reading_last : (s' : List ℕ) (id next : ℕ) (keep : Bool) → component_at n b at ≡ component.Last id next keep → s' ≡ offered n s id
-      → Opened n s₀ s' (ids_from n b 10) (value_of 0 (end_from n b 10)) (Kept (pick keep (length b) next))
+  pub reading_last : (s' : List ℕ) (id next : ℕ) (keep : Bool) → component_at n b at ≡ Some (component.Last id next keep) → s' ≡ offered n s id
+      → Opened n s₀ s' (ids_from n b 10) (value_of 0 (end_from n b 10)) (Some (pick keep (length b) next))
   reading_last s' id next keep e q =
       record {
         cs = v.cs ++ (id ∷ []);
@@ -83,7 +73,7 @@ module _ (b s₀ : List ℕ) (n : ℕ) (s : List ℕ) (at : ℕ) (v : Reading b 
         size = ap (value_of 0) (v.ends ∙ end_last n b at e);
       }
 
-  pub reading_bad : component_at n b at ≡ component.Bad → Opened n s₀ s (ids_from n b 10) (value_of 0 (end_from n b 10)) Bad
+  pub reading_bad : component_at n b at ≡ None → Opened n s₀ s (ids_from n b 10) (value_of 0 (end_from n b 10)) None
   reading_bad e =
       record {
         cs = v.cs;
@@ -94,10 +84,10 @@ module _ (b s₀ : List ℕ) (n : ℕ) (s : List ℕ) (at : ℕ) (v : Reading b 
       }
 
 -- an outline by its shape
-pub opened-none : (n : ℕ) (s : List ℕ) (a : Read) → Opened n s s (read_of a []) (kept_of a) a
+pub opened-none : (n : ℕ) (s : List ℕ) (a : Option ℕ) → Opened n s s (read_of a []) (kept_of a) a
 opened-none n s a = record { cs = []; gone = refl; low = λ c m. clash m refl; all = refl; size = refl }
 
-pub opened_shape : (n : ℕ) (b s s' : List ℕ) (x : Shape) (a : Read) → shape_of b ≡ x → Opened n s s' (parts_by n b x) (kept_by n b x) a
+pub opened_shape : (n : ℕ) (b s s' : List ℕ) (x : Option Shape) (a : Option ℕ) → shape_of b ≡ x → Opened n s s' (parts_by n b x) (kept_by n b x) a
     → Opened n s s' (map_res components (outline n b)) (kept_length n b) a
 opened_shape n b s s' x a e v =
     subst (λ m. Opened n s s' m (kept_length n b) a) (sym (parts_of_lem n b ∙ ap (parts_by n b) e))
@@ -105,19 +95,19 @@ opened_shape n b s s' x a e v =
 
 -- a glyph by where it stands
 module _ (w : Width) (n : ℕ) (loca glyf : Bytes) (g : ℕ) where
-  pub opened-there : (s s' : List ℕ) (a : Read) {start end : ℕ} → span_at w loca glyf g ≡ span.At start end
-      → Opened n s s' (map_res components (outline n (part glyf start (end - start)))) (kept_length n (part glyf start (end - start))) a
+  pub opened-there : (s s' : List ℕ) (a : Option ℕ) {p : Span} → span_at w loca glyf g ≡ Some p
+      → Opened n s s' (map_res components (outline n (span_bytes glyf p))) (kept_length n (span_bytes glyf p)) a
       → Opened n s s' (parts_in w n loca glyf g) (length_at w n loca glyf g) a
   unfolding parts_in outline_at
-  opened-there s s' a {start} {end} e v =
+  opened-there s s' a {p} e v =
       subst (λ (k : ℕ). Opened n s s' (parts_in w n loca glyf g) k a) (sym (length-there w n loca glyf g e))
-      (subst (λ m. Opened n s s' (map_res components m) (kept_length n (part glyf start (end - start))) a) (sym (outline-there w n loca glyf g e)) v)
+      (subst (λ m. Opened n s s' (map_res components m) (kept_length n (span_bytes glyf p)) a) (sym (outline-there w n loca glyf g e)) v)
 
-  pub opened-nowhere : (s : List ℕ) → span_at w loca glyf g ≡ span.Bad → Opened n s s (parts_in w n loca glyf g) (length_at w n loca glyf g) Bad
+  pub opened-nowhere : (s : List ℕ) → span_at w loca glyf g ≡ None → Opened n s s (parts_in w n loca glyf g) (length_at w n loca glyf g) None
   unfolding parts_in outline_at
   opened-nowhere s e =
-      subst (λ (k : ℕ). Opened n s s (parts_in w n loca glyf g) k Bad) (sym (length-nowhere w n loca glyf g e))
-      (subst (λ m. Opened n s s (map_res components m) 0 Bad) (sym (outline-nowhere w n loca glyf g e)) (opened-none n s Bad))
+      subst (λ (k : ℕ). Opened n s s (parts_in w n loca glyf g) k None) (sym (length-nowhere w n loca glyf g e))
+      (subst (λ m. Opened n s s (map_res components m) 0 None) (sym (outline-nowhere w n loca glyf g e)) (opened-none n s None))
 
 -- what the offers do to the state
 pub walking_offered_all : (n : ℕ) (s r l cs : List ℕ) → Walking n s r l → ((c : ℕ) → In c cs → c < n) → Walking n (offered_all n s cs) r (to_top r cs l)
@@ -125,15 +115,10 @@ walking_offered_all n s r l [] v h = v
 walking_offered_all n s r l (c ∷ cs) v h =
     walking_offered_all n (offered n s c) r (pick (member c r) l (c ∷ without c l)) cs (walking_offered n s r l v c (h c (in_here c cs))) (λ x m. h x (in_there x c cs m))
 
-pub past-opened : (n : ℕ) (s s' : List ℕ) (m : Res (List ℕ)) (kept : ℕ) (a : Read) → Linked n s → Opened n s s' m kept a → drop (4 * n) s' ≡ drop (4 * n) s
+pub past-opened : (n : ℕ) (s s' : List ℕ) (m : Res (List ℕ)) (kept : ℕ) (a : Option ℕ) → Linked n s → Opened n s s' m kept a → drop (4 * n) s' ≡ drop (4 * n) s
 past-opened n s s' m kept a v d = ap (drop (4 * n)) d.gone ∙ go d.cs s v d.low
   where
     go : (cs s : List ℕ) → Linked n s → ((c : ℕ) → In c cs → c < n) → drop (4 * n) (offered_all n s cs) ≡ drop (4 * n) s
     go [] s v h = refl
     go (c ∷ cs) s v h =
         go cs (offered n s c) (linked-offered n s c (h c (in_here c cs)) v) (λ x m. h x (in_there x c cs m)) ∙ (keeps-offered n s c (h c (in_here c cs)) v).past
-
--- a glyph's two offsets are there
-pub offsets-at : (w : Width) (n g : ℕ) (loca : Bytes) → Offsets w n loca → g < n → entry_size w * (g + 2) ≤ length loca
-offsets-at short n g loca h k = omega (arith, h (omega arith))
-offsets-at long n g loca h k = omega (arith, h (omega arith))

@@ -1,14 +1,8 @@
 -- A turn in the scratch is a turn of the walk: where nothing waits the stack's top is a request, which has its number; else it is the ring's top.
-use mathlib.Core.Path.{◌≡◌, refl, sym, ap, ap₂, ◌∙◌, subst}
-use mathlib.Core.Bool.{false}
-use mathlib.Core.List.{List, [], ◌∷◌, ◌++◌, reverse, reverse_aux}
-use mathlib.Core.Logic.{◌⊎◌, ⊎_elim, inl, inr}
-use Prim.Native.Nat.{ℕ, zero, suc, ◌+◌, ◌*◌, ◌-◌, ◌≤◌, ◌<◌}
-use native.Mathlib.Omega.{arith}
-use lib.ListN.{length, get_or, take, drop, length-append}
-use lib.Seq.{take-suc, take-append-le, drop-cons, drop-append-le}
-use lib.Dec.{eqb}
-use borrow.Author.Tests.{le-leb, lt-leb}
+use Rattle.std.proofs.Common.{◌≡◌, refl, sym, ap, ap₂, ◌∙◌, subst, false, List, [], ◌∷◌, ◌++◌, reverse, ◌⊎◌, ⊎_elim, inl, inr, ℕ, zero, suc, ◌+◌, ◌*◌, ◌-◌, ◌≤◌, ◌<◌, arith, length, get_or, take, drop, length-append, take-suc, drop-cons, eqb, le-leb, Option, None, Some, Result, Ok, Err, ok_or}
+use mathlib.Core.List.{reverse_aux}
+use lib.Seq.{take-append-le, drop-append-le}
+use borrow.Author.Tests.{lt-leb}
 use Rattle.model.specs.Res.{Res}
 use Rattle.model.specs.Bytes.{member}
 use Rattle.model.specs.Walk.{going, full, most}
@@ -18,12 +12,11 @@ use Rattle.model.proofs.Start.{out_of, without-out, in_reverse_aux}
 use Rattle.model.proofs.Places.{get_in}
 use Rattle.remapper.specs.Scratch.{next, taken, Linked}
 use Rattle.remapper.specs.State.{Walking}
-use Rattle.remapper.proofs.Numbering.{rostered-at, walking_room, more_room, walking-taken, past-taken}
+use Rattle.remapper.proofs.Numbering.{rostered-at, more_room, walking-taken, past-taken}
 use Rattle.closure.specs.Turns.{read_of, kept_of, Opened, stack, Underway, At, Falls, Turned}
-use Rattle.closure.specs.declared.Read.{Read}
-use Rattle.closure.specs.declared.Read.TheVariants.{Kept, Bad}
-use Rattle.closure.specs.declared.Step.TheVariants.{On, End, No}
-use Rattle.closure.specs.declared.Step.{Step}
+use Rattle.answer.specs.declared.Refusal.{Refusal}
+use Rattle.answer.specs.declared.Refusal.TheVariants.{MalformedFont, TooManyGlyphs}
+use Rattle.closure.specs.declared.Turn.{Turn}
 use Rattle.closure.proofs.Reading.{walking_offered_all, past-opened}
 
 without-append : (c : ℕ) (a b : List ℕ) → without c (a ++ b) ≡ without c a ++ without c b
@@ -62,19 +55,24 @@ top_cons : (n : ℕ) (s r l : List ℕ) (c : ℕ) → Walking n s r l → c ≡ 
 top_cons n s r [] c v e h = absurd (omega (arith, e, v.waits.ring.0))
 top_cons n s r (g ∷ l) c v e h = (l, ap {B = List ℕ} (λ (y : ℕ). y ∷ l) (sym (e ∙ v.waits.ring.0)))
 
+-- the exit where an outline can't be read
+pub unread : (r : Option ℕ) (e : Refusal) → Err e ≡ ok_or r MalformedFont → (r ≡ None) × (e ≡ MalformedFont)
+unread (Some k) e q = absurd cc
+unread None e q = (refl, cc)
+
 -- what an outline's answer makes of a turn's
-abbrev pub after_read : Read → ℕ → ℕ → Step
-after_read (Kept size) k left = On k left size
-after_read Bad k left = No 3
+abbrev pub after_read : Option ℕ → ℕ → ℕ → Result (Option Turn) Refusal
+after_read (Some size) k left = Ok (Some (record { count = k; left = left; length = size }))
+after_read None k left = Err MalformedFont
 
 -- a glyph with its number was read, of the stack l and then the requests left
 module _ (lengths : ℕ → ℕ) (n : ℕ) (s s' r l : List ℕ) (count k left : ℕ) (m : Res (List ℕ)) (before : List ℕ) (g : ℕ) (grown : (drop left r ≡ g ∷ before) ⊎ (drop left r ≡ before ++ (g ∷ []))) where
-  after_read_lem : (a : Read) → Walking n s r l → k ≡ length r → left ≤ length r → Opened n s s' m (lengths g) a
+  after_read_lem : (a : Option ℕ) → Walking n s r l → k ≡ length r → left ≤ length r → Opened n s s' m (lengths g) a
       → At lengths n s' count before (after_read a k left) (opened_t m r (stack r l left))
   after_read_lem a v e h w = subst (λ m. At lengths n s' count before (after_read a k left) (opened_t m r (stack r l left))) (sym w.all) (go a w.size)
     where
-      go : (a : Read) → lengths g ≡ kept_of a → At lengths n s' count before (after_read a k left) (opened_t (read_of a w.cs) r (stack r l left))
-      go (Kept size) q = (
+      go : (a : Option ℕ) → lengths g ≡ kept_of a → At lengths n s' count before (after_read a k left) (opened_t (read_of a w.cs) r (stack r l left))
+      go (Some size) q = (
         (
           to_top r w.cs l,
           subst (λ (t : List ℕ). Walking n t r (to_top r w.cs l)) (sym w.gone) (walking_offered_all n s r l w.cs v w.low),
@@ -84,31 +82,17 @@ module _ (lengths : ℕ → ℕ) (n : ℕ) (s s' r l : List ℕ) (count k left :
         ),
         record { g = g; size = sym q; at = grown },
       )
-      go Bad q = refl
+      go None q = refl
 
 module _ (n : ℕ) (s : List ℕ) (count left : ℕ) (v : Underway n s count left) where
   pub underway_linked : Linked n s
   underway_linked = v.2.waits.linked
 
-  pub underway_some : 0 < n
+  underway_some : 0 < n
   underway_some = v.2.low 0 v.2.waits.zeroth
-
-  pub underway_left : left ≤ n
-  underway_left = omega (arith, v.4, walking_room n s v.0 v.1 v.2)
 
   -- nothing waits
   module _ (bare : next n s 0 ≡ 0) where
-    pub turned-end : (parts : ℕ → Res (List ℕ)) (lengths : ℕ → ℕ) → left ≡ 0 → Turned parts lengths n s s count left End
-    turned-end parts lengths z =
-        record {
-          past = refl;
-          falls = tt;
-          at = λ r l w c h.
-              let none = top_nil n s r l w bare in
-              subst (λ (t : ℕ). At lengths n s count (drop t r) End (step_t parts (going r (stack r l t)))) (sym z)
-              (subst (λ (t : List ℕ). At lengths n s count r End (step_t parts (going r (stack r t 0)))) (sym none) (subst (Walking n s r) none w, c, refl));
-        }
-
     module _ (some : 0 < left) (q : ℕ) (is-q : q ≡ get_or s (left - 1) 0) where
       at-q : (r l : List ℕ) → Walking n s r l → left ≤ length r → q ≡ get_or r (left - 1) 0
       at-q r l w h = is-q ∙ rostered-at n s r (left - 1) w.rostered (omega arith)
@@ -119,7 +103,7 @@ module _ (n : ℕ) (s : List ℕ) (count left : ℕ) (v : Underway n s count lef
       pub request-low : q < n
       request-low = v.2.low q (in-q v.0 v.1 v.2 v.4)
 
-      pub turned-request : (parts : ℕ → Res (List ℕ)) (lengths : ℕ → ℕ) (s' : List ℕ) (a : Read) → Opened n s s' (parts q) (lengths q) a
+      pub turned-request : (parts : ℕ → Res (List ℕ)) (lengths : ℕ → ℕ) (s' : List ℕ) (a : Option ℕ) → Opened n s s' (parts q) (lengths q) a
           → Turned parts lengths n s s' count left (after_read a count (left - 1))
       turned-request parts lengths s' a w =
           record {
@@ -140,9 +124,9 @@ module _ (n : ℕ) (s : List ℕ) (count left : ℕ) (v : Underway n s count lef
           first : (r l : List ℕ) → Walking n s r l → left ≤ length r → drop (left - 1) r ≡ q ∷ drop left r
           first r l u h = drop-cons r (left - 1) 0 (omega arith) ∙ ap₂ {C = List ℕ} (λ (x t : ℕ). x ∷ drop t r) (sym (at-q r l u h)) more
 
-          falls : (a : Read) → Falls count left (after_read a count (left - 1))
-          falls (Kept size) = omega arith
-          falls Bad = tt
+          falls : (a : Option ℕ) → Falls count left (after_read a count (left - 1))
+          falls (Some size) = omega arith
+          falls None = tt
 
   -- a component waits on top
   module _ (c : ℕ) (is_c : c ≡ next n s 0) (some : 0 < c) where
@@ -155,14 +139,14 @@ module _ (n : ℕ) (s : List ℕ) (count left : ℕ) (v : Underway n s count lef
     pub component-room : count < n
     component-room = omega (arith, v.3, more_room n s v.0 v.1 v.2 c component-low (new v.0 v.1 v.2))
 
-    pub turned-full : (parts : ℕ → Res (List ℕ)) (lengths : ℕ → ℕ) → most ≤ count → Turned parts lengths n s s count left (No 7)
+    pub turned-full : (parts : ℕ → Res (List ℕ)) (lengths : ℕ → ℕ) → most ≤ count → Turned parts lengths n s s count left (Err TooManyGlyphs)
     unfolding full
     turned-full parts lengths h =
         record {
           past = refl;
           falls = tt;
           at = λ r l u e k.
-              subst (λ (t : List ℕ). At lengths n s count (drop left r) (No 7) (step_t parts (going r (stack r t left)))) (sym (top_cons n s r l c u is_c some).1)
+              subst (λ (t : List ℕ). At lengths n s count (drop left r) (Err TooManyGlyphs) (step_t parts (going r (stack r t left)))) (sym (top_cons n s r l c u is_c some).1)
               (rw (new r l u, le-leb most (length r) (omega arith)) refl);
         }
 
@@ -175,7 +159,7 @@ module _ (n : ℕ) (s : List ℕ) (count left : ℕ) (v : Underway n s count lef
       pub taken-linked : Linked n s₁
       taken-linked = (walking-next v.0 v.1 v.2 v.3).waits.linked
 
-      pub turned-component : (parts : ℕ → Res (List ℕ)) (lengths : ℕ → ℕ) (s' : List ℕ) (a : Read) → Opened n s₁ s' (parts c) (lengths c) a
+      pub turned-component : (parts : ℕ → Res (List ℕ)) (lengths : ℕ → ℕ) (s' : List ℕ) (a : Option ℕ) → Opened n s₁ s' (parts c) (lengths c) a
           → Turned parts lengths n s s' count left (after_read a (count + 1) left)
       unfolding full
       turned-component parts lengths s' a w =
@@ -187,9 +171,9 @@ module _ (n : ℕ) (s : List ℕ) (count left : ℕ) (v : Underway n s count lef
             at = λ r l u e k. let d = top_cons n s r l c u is_c some in go r l u e k d.0 d.1;
           }
         where
-          falls : (a : Read) → Falls count left (after_read a (count + 1) left)
-          falls (Kept size) = omega arith
-          falls Bad = tt
+          falls : (a : Option ℕ) → Falls count left (after_read a (count + 1) left)
+          falls (Some size) = omega arith
+          falls None = tt
 
           go : (r l : List ℕ) → Walking n s r l → count ≡ length r → left ≤ length r → (t : List ℕ) → l ≡ c ∷ t
               → At lengths n s' count (drop left r) (after_read a (count + 1) left) (step_t parts (going r (stack r l left)))

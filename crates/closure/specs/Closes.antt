@@ -1,6 +1,6 @@
 -- What the whole promises: the walk's answer, with the kept outlines' lengths added up, and in the scratch its roster and the new numbers, and nothing
 -- of other glyphs.
-use Rattle.std.specs.Prelude.{◌≡◌, false, List, map, ℕ, ◌+◌, ◌*◌, ◌≤◌, ◌<◌, length, drop}
+use Rattle.std.specs.Prelude.{Result, Ok, Err, ◌≡◌, false, List, map, ℕ, ◌+◌, ◌*◌, ◌≤◌, ◌<◌, length, drop}
 use Rattle.model.specs.Res.{Res, refuse, ok, map_res, ◌>>=◌}
 use Rattle.model.specs.Bytes.{Bytes, sum}
 use Rattle.model.specs.Glyf.{Width, short, entry_size, glyph_bytes}
@@ -9,8 +9,9 @@ use Rattle.model.specs.Walk.{walk}
 use Rattle.glyf.specs.Pieces.{raised_to}
 use Rattle.remapper.specs.Scratch.{Sweepable}
 use Rattle.remapper.specs.State.{Rostered}
-use Rattle.closure.specs.declared.Closed.{Closed}
-use Rattle.closure.specs.declared.Closed.TheVariants.{Kept, No}
+use Rattle.answer.specs.declared.Refusal.{Refusal}
+use Rattle.answer.specs.Answers.{number}
+use Rattle.closure.specs.declared.Kept.{Kept}
 
 -- a glyph's components, and step 5's walk, over what the code is lent (`parts_of` and `closure` of a font's tables are these)
 unfoldable pub parts_in : Width → ℕ → Bytes → Bytes → ℕ → Res (List ℕ)
@@ -31,14 +32,14 @@ abbrev pub raw_length : (ℕ → ℕ) → List ℕ → ℕ
 raw_length lengths gs = sum (map lengths gs)
 
 -- so many glyphs are kept, of these lengths together, or the refusal
-abbrev pub closed_of : Closed → Res (ℕ × ℕ × ℕ)
-closed_of (Kept k even raw) = ok (k, even, raw)
-closed_of (No k) = refuse k
+abbrev pub closed_of : Result Kept Refusal → Res (ℕ × ℕ × ℕ)
+closed_of (Ok k) = ok (k.kept, k.even, k.raw)
+closed_of (Err e) = refuse (number e)
 
 abbrev pub totals : (ℕ → ℕ) → List ℕ → ℕ × ℕ × ℕ
 totals lengths r = (length r, even_length lengths r, raw_length lengths r)
 
-pub record Closes (lengths : ℕ → ℕ) (walked : Res (List ℕ)) (n : ℕ) (s s' : List ℕ) (a : Closed) : Type 0 where
+pub record Closes (lengths : ℕ → ℕ) (walked : Res (List ℕ)) (n : ℕ) (s s' : List ℕ) (a : Result Kept Refusal) : Type 0 where
   pub answer : closed_of a ≡ map_res (totals lengths) walked
   pub scratch : (r : List ℕ) → walked ≡ ok r → Rostered n s' r
   pub sweepable : (r : List ℕ) → walked ≡ ok r → Sweepable n s' (length r) false

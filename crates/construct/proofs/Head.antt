@@ -7,7 +7,7 @@ use Rattle.model.specs.Font.{Entry, HEAD}
 use Rattle.model.specs.File.{bodies, adjust, adjustment, directory_of, file}
 use Rattle.model.proofs.Bytes.{length-put}
 use Rattle.places.specs.declared.Tables.{Tables}
-use Rattle.places.specs.Places.{tag_words, place_at}
+use Rattle.places.specs.Places.{tag_words, place_at, present_at}
 use Rattle.construct.specs.Construct.{start_at, count_to, directory_length, entry_at, entries_to, Sized}
 use Rattle.construct.proofs.Files.{bodies-append, adjust-append, length-directory, raised-room}
 use Rattle.construct.proofs.Lists.{length-entries, start-bodies, start-room}
@@ -47,7 +47,7 @@ module _ (t : Tables) (body : ℕ → Bytes) where
 
   adjust_other : (x k : ℕ) → eqb (get_or tag_words k 0) HEAD ≡ false → adjust x (entry_at t body k) ≡ entry_at t body k
   unfolding entry_at
-  adjust_other x k e = pick_other x (place_at t k).present (get_or tag_words k 0) (body k) e
+  adjust_other x k e = pick_other x (present_at t k) (get_or tag_words k 0) (body k) e
 
   before_same : (x : ℕ) → adjust x (entries_to t body 3) ≡ entries_to t body 3
   unfolding entries_to
@@ -58,7 +58,7 @@ module _ (t : Tables) (body : ℕ → Bytes) where
   behind-same x =
       simp (adjust-append, adjust_other x 4 refl, adjust_other x 5 refl, adjust_other x 6 refl, adjust_other x 7 refl, adjust_other x 8 refl, adjust_other x 9 refl, adjust_other x 10 refl)
 
-  module _ (sized : Sized t body) (there : (place_at t 3).present ≡ true) (long : 12 ≤ (place_at t 3).length) where
+  module _ (sized : Sized t body) (there : present_at t 3 ≡ true) (long : 12 ≤ (place_at t 3).length) where
     split : entries_to t body 11 ≡ entries_to t body 3 ++ ((HEAD, body 3) ∷ behind)
     unfolding entries_to behind
     split = simp append_assoc (ap (λ (h : List Entry). entry_at t body 0 ++ (entry_at t body 1 ++ (entry_at t body 2 ++ (h ++ behind)))) head)

@@ -1,11 +1,16 @@
 -- The first k tables: one more at a time; where the next one starts is the length of those before it; what stands in the output is what was written.
 use Rattle.std.proofs.Common.{◌≡◌, ℕ, zero, suc, ◌+◌, ◌-◌, ◌<◌, ◌≤◌, Bool, true, false, List, [], ◌∷◌, ◌++◌, length, get_or, sym, refl, ap, ◌∙◌, subst, ap₂, append-nil, add-zero, add-suc, add-one, arith, length-append}
+use Rattle.std.specs.Prelude.{None, is_some, count_by}
+use Rattle.std.proofs.lemmas.List.Sums.{count_by_more_yes, count_by_more_no}
+use lib.ListN.{take}
+use lib.Seq.{take_all}
 use Rattle.model.specs.Res.{pick}
+use Rattle.model.proofs.Members.{by}
 use Rattle.model.specs.Bytes.{Bytes, part, pad4}
 use Rattle.model.specs.Font.{Entry}
 use Rattle.model.specs.File.{bodies}
 use Rattle.places.specs.declared.Tables.{Tables}
-use Rattle.places.specs.Places.{tag_words, place_at, content_at}
+use Rattle.places.specs.Places.{tag_words, place_at, present_at, content_at}
 use Rattle.construct.specs.Construct.{raised, count_to, start_at, entry_at, entries_to, Stands, Sized}
 use Rattle.construct.proofs.Files.{length-pad4, bodies-append}
 use Rattle.construct.proofs.Stand.{stands-left, stands_right}
@@ -26,26 +31,26 @@ grows f up k n h =
     omega arith
 
 module _ (t : Tables) where
-  pub count-there : (k : ℕ) → (place_at t k).present ≡ true → count_to t (k + 1) ≡ count_to t k + 1
+  pub count-there : (k : ℕ) → present_at t k ≡ true → count_to t (k + 1) ≡ count_to t k + 1
   unfolding count_to
   count-there k h = rw (add-one k, h)
 
-  pub count_none : (k : ℕ) → (place_at t k).present ≡ false → count_to t (k + 1) ≡ count_to t k
+  pub count_none : (k : ℕ) → present_at t k ≡ false → count_to t (k + 1) ≡ count_to t k
   unfolding count_to
   count_none k h = rw (add-one, h, add-zero)
 
-  pub start-there : (d k : ℕ) → (place_at t k).present ≡ true → start_at d t (k + 1) ≡ start_at d t k + raised (place_at t k).length
+  pub start-there : (d k : ℕ) → present_at t k ≡ true → start_at d t (k + 1) ≡ start_at d t k + raised (place_at t k).length
   unfolding start_at
   start-there d k h = rw (add-one, h)
 
-  pub start_none : (d k : ℕ) → (place_at t k).present ≡ false → start_at d t (k + 1) ≡ start_at d t k
+  pub start_none : (d k : ℕ) → present_at t k ≡ false → start_at d t (k + 1) ≡ start_at d t k
   unfolding start_at
   start_none d k h = rw (add-one, h, add-zero)
 
   pub count_small : (k : ℕ) → count_to t k ≤ k
   unfolding count_to
   count_small zero = omega arith
-  count_small (suc k) = let i = count_small k in let o = one (place_at t k).present in omega arith
+  count_small (suc k) = let i = count_small k in let o = one (present_at t k) in omega arith
     where
       one : (b : Bool) → pick b 1 0 ≤ 1
       one true = omega arith
@@ -68,11 +73,24 @@ module _ (t : Tables) where
   start_first d = refl
 
   -- a table and its zeros end before the last one does
-  pub start-room : (d k : ℕ) → k < 11 → (place_at t k).present ≡ true → start_at d t k + raised (place_at t k).length ≤ start_at d t 11
+  pub start-room : (d k : ℕ) → k < 11 → present_at t k ≡ true → start_at d t k + raised (place_at t k).length ≤ start_at d t 11
   start-room d k h p =
       let s = start-there d k p in
       let g = start-grows d (k + 1) 11 (omega arith) in
       omega arith
+
+  -- the same, counted along the list
+  count-along : (k : ℕ) → k ≤ length t.places → count_to t k ≡ count_by is_some (take k t.places)
+  unfolding count_to
+  count-along zero h = refl
+  count-along (suc k) h =
+      let i = count-along k (omega arith) in
+      by (present_at t k)
+      (λ e. let m = count_by_more_yes is_some t.places k None (omega arith) e in rw (e, ← add-one k, m) (omega arith))
+      (λ e. let m = count_by_more_no is_some t.places k None (omega arith) e in rw (e, ← add-one k, m) (omega arith))
+
+  pub count-all : length t.places ≡ 11 → count_by is_some t.places ≡ count_to t 11
+  count-all h = sym (count-along 11 (omega arith) ∙ ap (count_by is_some) (take_all 11 t.places (omega arith)))
 
 length-pick : (b : Bool) (e : Entry) → length (pick b (e ∷ []) []) ≡ pick b 1 0
 length-pick true e = refl
@@ -91,11 +109,11 @@ stands-pick true tag bs x out o e h =
 stands-pick false tag bs x out o e h = refl
 
 module _ (t : Tables) (body : ℕ → Bytes) where
-  pub entries-there : (k : ℕ) → (place_at t k).present ≡ true → entries_to t body (k + 1) ≡ entries_to t body k ++ ((get_or tag_words k 0, body k) ∷ [])
+  pub entries-there : (k : ℕ) → present_at t k ≡ true → entries_to t body (k + 1) ≡ entries_to t body k ++ ((get_or tag_words k 0, body k) ∷ [])
   unfolding entries_to entry_at
   entries-there k h = rw (add-one, h)
 
-  pub entries_none : (k : ℕ) → (place_at t k).present ≡ false → entries_to t body (k + 1) ≡ entries_to t body k
+  pub entries_none : (k : ℕ) → present_at t k ≡ false → entries_to t body (k + 1) ≡ entries_to t body k
   unfolding entries_to entry_at
   entries_none k h = rw (add-one, h, append-nil)
 
@@ -104,7 +122,7 @@ module _ (t : Tables) (body : ℕ → Bytes) where
   length-entries zero = refl
   length-entries (suc k) =
       length-append (entries_to t body k) (entry_at t body k)
-      ∙ ap₂ (λ (a b : ℕ). a + b) (length-entries k) (length-pick (place_at t k).present (get_or tag_words k 0, body k))
+      ∙ ap₂ (λ (a b : ℕ). a + b) (length-entries k) (length-pick (present_at t k) (get_or tag_words k 0, body k))
 
   module _ (sized : Sized t body) where
     -- where the next table starts
@@ -113,12 +131,12 @@ module _ (t : Tables) (body : ℕ → Bytes) where
     start-bodies d zero h = sym (add-zero d)
     start-bodies d (suc k) h =
         let i = start-bodies d k (omega arith) in
-        let p = bodies-pick (place_at t k).present (get_or tag_words k 0) (body k) (place_at t k).length (sized k (omega arith)) in
+        let p = bodies-pick (present_at t k) (get_or tag_words k 0) (body k) (place_at t k).length (sized k (omega arith)) in
         let a = ap length (bodies-append (entries_to t body k) (entry_at t body k)) ∙ length-append (bodies (entries_to t body k)) (bodies (entry_at t body k)) in
         omega arith
 
     -- what was written is what stands at the places
-    pub entries-stand : (out : Bytes) (d : ℕ) → ((k : ℕ) → k < 11 → (place_at t k).offset ≡ start_at d t k)
+    pub entries-stand : (out : Bytes) (d : ℕ) → ((k : ℕ) → k < 11 → present_at t k ≡ true → (place_at t k).offset ≡ start_at d t k)
         → (k : ℕ) → k ≤ 11 → Stands out d (bodies (entries_to t body k)) → entries_to t (content_at out t) k ≡ entries_to t body k
     unfolding entries_to
     entries-stand out d offsets zero h s = refl
@@ -133,6 +151,6 @@ module _ (t : Tables) (body : ℕ → Bytes) where
             → entry_at t (content_at out t) k ≡ entry_at t body k
         last k h s =
             unfold entry_at content_at in
-            stands-pick (place_at t k).present (get_or tag_words k 0) (body k) (content_at out t k) out (d + length (bodies (entries_to t body k)))
-            (λ p. ap₂ (λ (a n : ℕ). part out a n) (offsets k h ∙ start-bodies d k (omega arith)) (sym (sized k h p)))
+            stands-pick (present_at t k) (get_or tag_words k 0) (body k) (content_at out t k) out (d + length (bodies (entries_to t body k)))
+            (λ p. ap₂ (λ (a n : ℕ). part out a n) (offsets k h p ∙ start-bodies d k (omega arith)) (sym (sized k h p)))
             s

@@ -2,7 +2,7 @@
 use Rattle.std.proofs.Common.{◌≡◌, ℕ, ◌+◌, ◌<◌, ◌≤◌, true, length, sym, ◌∙◌, arith}
 use Rattle.model.specs.Bytes.{Bytes}
 use Rattle.model.specs.File.{bodies}
-use Rattle.places.specs.Places.{place_at, content_at}
+use Rattle.places.specs.Places.{place_at, present_at, content_at}
 use Rattle.construct.specs.declared.Layout.{Layout}
 use Rattle.construct.specs.Construct.{raised, directory_length, entries_to, laid, Sized, Placed, Ready}
 use Rattle.construct.proofs.Files.{raised-room}
@@ -11,15 +11,15 @@ use Rattle.construct.proofs.Lists.{start-room, start-grows, start_first, start-b
 
 module _ (new : Layout) (p : Placed new) where
   -- room for a table and its zeros
-  pub pad_room : (k : ℕ) → k < 11 → (place_at new.tables k).present ≡ true
+  pub pad_room : (k : ℕ) → k < 11 → present_at new.tables k ≡ true
       → (place_at new.tables k).offset + raised (place_at new.tables k).length ≤ new.end
   pad_room k h t =
       let r = start-room new.tables (directory_length new.count) k h t in
-      let o = p.offsets k h in
+      let o = p.offsets k h t in
       let e = p.ends in
       omega arith
 
-  pub place-room : (k : ℕ) → k < 11 → (place_at new.tables k).present ≡ true
+  pub place-room : (k : ℕ) → k < 11 → present_at new.tables k ≡ true
       → (place_at new.tables k).offset + (place_at new.tables k).length ≤ new.end
   place-room k h t = let r = pad_room k h t in let z = raised-room (place_at new.tables k).length in omega arith
 
@@ -40,10 +40,10 @@ module _ (out : Bytes) (new : Layout) (r : Ready out new) where
       let room = r.room in
       length_part out q.offset q.length (omega arith)
 
-  pub ready-offset : (k : ℕ) → k < 11
+  pub ready-offset : (k : ℕ) → k < 11 → present_at new.tables k ≡ true
       → (place_at new.tables k).offset ≡ directory_length new.count + length (bodies (entries_to new.tables (content_at out new.tables) k))
-  ready-offset k h =
-      r.placed.offsets k h
+  ready-offset k h t =
+      r.placed.offsets k h t
       ∙ start-bodies new.tables (content_at out new.tables) ready-sized (directory_length new.count) k (omega arith)
 
   pub ready-count : length (laid out new.tables) ≡ new.count

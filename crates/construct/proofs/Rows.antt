@@ -5,7 +5,7 @@ use Rattle.model.specs.Font.{Entry}
 use Rattle.model.specs.File.{word_sum, checksum, header, row, rows_from, bodies, adjust, adjustment, directory_of, file}
 use Rattle.model.proofs.Bytes.{length-put, put-within}
 use Rattle.places.specs.declared.Tables.{Tables}
-use Rattle.places.specs.Places.{tag_words, place_at, content_at}
+use Rattle.places.specs.Places.{tag_words, place_at, present_at, content_at}
 use Rattle.construct.specs.declared.Layout.{Layout}
 use Rattle.construct.specs.Construct.{count_to, directory_length, entries_to, laid, adjusting, Ready, Leaves}
 use Rattle.construct.proofs.Files.{rows_append, length-rows, sum_snoc, length-directory, sum-file}
@@ -25,7 +25,7 @@ pub rowed_start : (t : Tables) (out : Bytes) → Rowed t out out 0 12 0
 unfolding count_to entries_to
 rowed_start t out = record { below = omega arith; next = refl; sums = refl; rows = put_nil out 12 }
 
-pub rowed_none : (t : Tables) (out₀ out : Bytes) (sum at k : ℕ) → k < 11 → (place_at t k).present ≡ false → Rowed t out₀ out sum at k → Rowed t out₀ out sum at (k + 1)
+pub rowed_none : (t : Tables) (out₀ out : Bytes) (sum at k : ℕ) → k < 11 → present_at t k ≡ false → Rowed t out₀ out sum at k → Rowed t out₀ out sum at (k + 1)
 rowed_none t out₀ out sum at k h n r =
     let c = count_none t k n in
     let e = entries_none t (content_at out₀ t) k n in
@@ -59,14 +59,14 @@ module _ (new : Layout) (out₀ : Bytes) (ready : Ready out₀ new) where
       let room = ready.room in
       ap length r.rows ∙ length-put out₀ 12 (rows_from d es) (omega arith)
 
-  module _ (out : Bytes) (sum at k : ℕ) (h : k < 11) (there : (place_at new.tables k).present ≡ true) (r : Rowed new.tables out₀ out sum at k) where
+  module _ (out : Bytes) (sum at k : ℕ) (h : k < 11) (there : present_at new.tables k ≡ true) (r : Rowed new.tables out₀ out sum at k) where
     -- a record ends before the first table
     pub row_room : at + 16 ≤ (place_at new.tables k).offset
     unfolding directory_length
     row_room =
         let c = count-there new.tables k there in
         let g = count-grows new.tables (k + 1) 11 (omega arith) in
-        let o = ready-offset out₀ new ready k h in
+        let o = ready-offset out₀ new ready k h there in
         let e = ready.placed.counts in
         let n = r.next in
         omega arith
@@ -118,7 +118,7 @@ module _ (new : Layout) (out₀ : Bytes) (ready : Ready out₀ new) where
             let c = content_at out₀ new.tables in
             let l = entries_to new.tables c k in
             let d = directory_length (count_to new.tables 11) in
-            let o = ready-offset out₀ new ready k h ∙ ap (λ (n : ℕ). n + length (bodies l)) (sym d-same) in
+            let o = ready-offset out₀ new ready k h there ∙ ap (λ (n : ℕ). n + length (bodies l)) (sym d-same) in
             let tag = get_or tag_words k 0 in
             eo
             ∙ ap₂ (λ (x b : Bytes). put x at (row (place_at new.tables k).offset (tag, b))) r.rows row-part
@@ -174,7 +174,7 @@ module _ (new : Layout) (out₀ : Bytes) (ready : Ready out₀ new) where
           ≡ directory_of (laid out₀ new.tables) ++ bodies (adjust x (laid out₀ new.tables))
       headed x =
           unfold laid in
-          (ap (λ (n : ℕ). put (directory_of (laid out₀ new.tables) ++ bodies (laid out₀ new.tables)) (n + 8) (be32 x)) (ready.placed.offsets 3 (omega arith))
+          (ap (λ (n : ℕ). put (directory_of (laid out₀ new.tables) ++ bodies (laid out₀ new.tables)) (n + 8) (be32 x)) (ready.placed.offsets 3 (omega arith) ready.head)
           ∙ head-put new.tables (content_at out₀ new.tables) (ready-sized out₀ new ready) ready.head ready.long x (directory_of (laid out₀ new.tables)) (directory_length new.count) directory-length)
 
   -- all of `finish`, from what its calls leave

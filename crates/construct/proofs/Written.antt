@@ -8,7 +8,7 @@ use Rattle.model.specs.Font.{Entry, Tables as Contents, CVT, FPGM, GLYF, HEAD, H
 use Rattle.model.specs.File.{bodies, maybe, entries, file}
 use Rattle.model.proofs.Bytes.{put-put, length-put}
 use Rattle.places.specs.declared.Tables.{Tables}
-use Rattle.places.specs.Places.{tag_words, place_at}
+use Rattle.places.specs.Places.{tag_words, place_at, present_at}
 use Rattle.construct.specs.declared.Layout.{Layout}
 use Rattle.construct.specs.Construct.{start_at, directory_length, entry_at, entries_to, laid, content_of, is_there, body_of, marks, Marked, Stands, Sized, Placed, Ready, Written, write_at, write_to}
 use Rattle.construct.proofs.Files.{bodies_snoc}
@@ -23,7 +23,7 @@ pub put_pad : (out body : Bytes) (at : ℕ) → at ≤ length out
 put_pad out body at h = put-put out body (replicate ((4 - length body % 4) % 4) 0) at h
 
 -- a table that is there: its writer leaves its bytes, and `pad` the zeros behind them; one that isn't there
-pub write_there : (new : Layout) (k : ℕ) (b out o₁ o₂ : Bytes) → (place_at new.tables k).present ≡ true → (place_at new.tables k).offset ≤ length out
+pub write_there : (new : Layout) (k : ℕ) (b out o₁ o₂ : Bytes) → present_at new.tables k ≡ true → (place_at new.tables k).offset ≤ length out
     → o₁ ≡ put out (place_at new.tables k).offset b
     → o₂ ≡ put o₁ ((place_at new.tables k).offset + length b) (replicate ((4 - length b % 4) % 4) 0) → o₂ ≡ write_at new k b out
 unfolding write_at
@@ -31,7 +31,7 @@ write_there new k b out o₁ o₂ t h e₁ e₂ =
     let at = (place_at new.tables k).offset in
     rw t (e₂ ∙ ap (λ (x : Bytes). put x (at + length b) (replicate ((4 - length b % 4) % 4) 0)) e₁ ∙ put_pad out b at h)
 
-pub write_none : (new : Layout) (k : ℕ) (b out : Bytes) → (place_at new.tables k).present ≡ false → out ≡ write_at new k b out
+pub write_none : (new : Layout) (k : ℕ) (b out : Bytes) → present_at new.tables k ≡ false → out ≡ write_at new k b out
 unfolding write_at
 write_none new k b out n = rw n
 
@@ -48,17 +48,17 @@ module _ (new : Layout) (p : Placed new) (body : ℕ → Bytes) (sized : Sized n
   written_none = put_nil out₀ (directory_length new.count)
 
   -- a table that isn't there
-  pub written_skip : (out : Bytes) (k : ℕ) → (place_at new.tables k).present ≡ false → Written new body out₀ out k → Written new body out₀ out (k + 1)
+  pub written_skip : (out : Bytes) (k : ℕ) → present_at new.tables k ≡ false → Written new body out₀ out k → Written new body out₀ out (k + 1)
   written_skip out k n w =
       w ∙ ap (λ (es : List Entry). put out₀ (directory_length new.count) (bodies es)) (sym (entries_none new.tables body k n))
 
   -- one table more, padded, at its place
-  pub written_step : (out out' : Bytes) (k : ℕ) → k < 11 → (place_at new.tables k).present ≡ true → Written new body out₀ out k
+  pub written_step : (out out' : Bytes) (k : ℕ) → k < 11 → present_at new.tables k ≡ true → Written new body out₀ out k
       → out' ≡ put out (place_at new.tables k).offset (pad4 (body k)) → Written new body out₀ out' (k + 1)
   unfolding d
   written_step out out' k h t w e =
       let es = entries_to new.tables body k in
-      let o : (place_at new.tables k).offset ≡ d + length (bodies es) = p.offsets k h ∙ start-bodies new.tables body sized d k (omega arith) in
+      let o : (place_at new.tables k).offset ≡ d + length (bodies es) = p.offsets k h t ∙ start-bodies new.tables body sized d k (omega arith) in
       e ∙ ap₂ (λ (x : Bytes) (n : ℕ). put x n (pad4 (body k))) w o
       ∙ put-put out₀ (bodies es) (pad4 (body k)) d inside
       ∙ ap (put out₀ d) (sym (bodies_snoc es (get_or tag_words k 0) (body k)) ∙ ap bodies (sym (entries-there new.tables body k t)))
@@ -72,9 +72,9 @@ module _ (new : Layout) (p : Placed new) (body : ℕ → Bytes) (sized : Sized n
       ap length w ∙ length-put out₀ d (bodies (entries_to new.tables body k)) (omega arith)
 
   pub written_at : (out : Bytes) (k : ℕ) → k < 11 → Written new body out₀ out k → Written new body out₀ (write_at new k (body k) out) (k + 1)
-  written_at out k h w = go (place_at new.tables k).present refl
+  written_at out k h w = go (present_at new.tables k) refl
     where
-      go : (b : Bool) → (place_at new.tables k).present ≡ b → Written new body out₀ (write_at new k (body k) out) (k + 1)
+      go : (b : Bool) → present_at new.tables k ≡ b → Written new body out₀ (write_at new k (body k) out) (k + 1)
       go true t = written_step out (write_at new k (body k) out) k h t w (unfold write_at in rw t)
       go false n = sym (write_none new k (body k) out n) ∙ written_skip out k n w
 
@@ -94,7 +94,7 @@ module _ (new : Layout) (p : Placed new) (body : ℕ → Bytes) (sized : Sized n
     unfolding laid d
     written-laid = entries-stand new.tables body sized out d p.offsets 11 (omega arith) all-stands
 
-    pub written-ready : new.end ≤ 4294967295 → (place_at new.tables 3).present ≡ true → 12 ≤ (place_at new.tables 3).length → Ready out new
+    pub written-ready : new.end ≤ 4294967295 → present_at new.tables 3 ≡ true → 12 ≤ (place_at new.tables 3).length → Ready out new
     unfolding d
     written-ready small head long =
         record {
@@ -121,7 +121,7 @@ module _ (new : Layout) (p : Placed new) (body : ℕ → Bytes) (sized : Sized n
         ∙ ap (λ (m : ℕ). drop m out₀) (sym n))
 
 -- the file's length, before it is written
-pub file_end : (new : Layout) → Placed new → (body : ℕ → Bytes) → Sized new.tables body → (place_at new.tables 3).present ≡ true
+pub file_end : (new : Layout) → Placed new → (body : ℕ → Bytes) → Sized new.tables body → present_at new.tables 3 ≡ true
     → 12 ≤ (place_at new.tables 3).length → length (file (entries_to new.tables body 11)) ≡ new.end
 file_end new p body sized head long =
     length-file new.tables body sized head long
@@ -132,11 +132,11 @@ maybe-pick b tag none e = rw e
 maybe-pick b tag (some x) e = rw e
 
 module _ (c : Contents) (t : Tables) (m : Marked c t) where
-  entry_of : (k tag : ℕ) (o : Option Bytes) → get_or tag_words k 0 ≡ tag → body_of c k ≡ content_of o → (place_at t k).present ≡ is_there o
+  entry_of : (k tag : ℕ) (o : Option Bytes) → get_or tag_words k 0 ≡ tag → body_of c k ≡ content_of o → present_at t k ≡ is_there o
       → entry_at t (body_of c) k ≡ maybe tag o
   unfolding entry_at
   entry_of k tag o et eb ep =
-      ap₂ (λ (n : ℕ) (b : Bytes). pick (place_at t k).present ((n, b) ∷ []) []) et eb ∙ maybe-pick (place_at t k).present tag o ep
+      ap₂ (λ (n : ℕ) (b : Bytes). pick (present_at t k) ((n, b) ∷ []) []) et eb ∙ maybe-pick (present_at t k) tag o ep
 
   -- the tables of a cut font are such a list
   pub entries_of : entries c ≡ entries_to t (body_of c) 11
@@ -159,7 +159,7 @@ module _ (c : Contents) (t : Tables) (m : Marked c t) where
 
 -- All together, for tables c: what `finish` leaves is the file of c over the output as it was, and its length is the layout's end.
 module _ (c : Contents) (new : Layout) (p : Placed new) (m : Marked c new.tables) (sized : Sized new.tables (body_of c)) (long : 12 ≤ (place_at new.tables 3).length) where
-  pub head-there : (place_at new.tables 3).present ≡ true
+  pub head-there : present_at new.tables 3 ≡ true
   unfolding marks
   head-there = m 3 (lit< tt)
 

@@ -1,5 +1,6 @@
 -- Where the new tables stand, and the tables that the output holds.
 use Rattle.std.specs.Prelude.{◌≡◌, ℕ, zero, suc, ◌+◌, ◌-◌, ◌*◌, ◌%◌, ◌^◌, ◌<◌, ◌≤◌, Bool, true, false, List, [], ◌∷◌, ◌++◌, length, get_or, slice_index, slice_index_or}
+use Rattle.std.specs.Prelude.{Option as Maybe, Some, None}
 use Rattle.std.proofs.Math.Option.{Option, none, some}
 use Rattle.model.specs.Res.{pick}
 use Rattle.model.specs.Bytes.{Bytes, part, put, pad4}
@@ -7,7 +8,7 @@ use Rattle.model.specs.Font.{Entry, Tables as Contents}
 use Rattle.model.specs.File.{bodies, selector, search_range}
 use Rattle.places.specs.declared.Place.{Place}
 use Rattle.places.specs.declared.Tables.{Tables}
-use Rattle.places.specs.Places.{tag_words, place_at, content_at}
+use Rattle.places.specs.Places.{tag_words, place_at, present_at, content_at}
 use Rattle.construct.specs.declared.Layout.{Layout}
 use Rattle.construct.specs.declared.Search.{Search}
 
@@ -26,26 +27,21 @@ raised n = n + (4 - n % 4) % 4
 -- how many of the first k tables are there
 unfoldable pub count_to : Tables → ℕ → ℕ
 count_to t zero = 0
-count_to t (suc k) = count_to t k + pick (place_at t k).present 1 0
+count_to t (suc k) = count_to t k + pick (present_at t k) 1 0
 
 -- where the table behind the first k starts, if the first of all starts at d
 unfoldable pub start_at : ℕ → Tables → ℕ → ℕ
 start_at d t zero = d
-start_at d t (suc k) = start_at d t k + pick (place_at t k).present (raised (place_at t k).length) 0
+start_at d t (suc k) = start_at d t k + pick (present_at t k) (raised (place_at t k).length) 0
 
 -- the directory's length
 unfoldable pub directory_length : ℕ → ℕ
 directory_length n = 12 + 16 * n
 
-unfoldable pub placed_at : Tables → ℕ → Place
-placed_at t k =
-    record {
-      offset = start_at (directory_length (count_to t 11)) t k;
-      length = (place_at t k).length;
-      present = (place_at t k).present;
-    }
+unfoldable pub placed_at : Tables → ℕ → Maybe Place
+placed_at t k = pick (present_at t k) (Some (record { offset = start_at (directory_length (count_to t 11)) t k; length = (place_at t k).length })) None
 
-unfoldable pub places_to : Tables → ℕ → List Place
+unfoldable pub places_to : Tables → ℕ → List (Maybe Place)
 places_to t zero = []
 places_to t (suc k) = places_to t k ++ (placed_at t k ∷ [])
 
@@ -60,7 +56,7 @@ laid_out t =
 
 -- table number k, if it is there, with its contents; the first k of them
 unfoldable pub entry_at : Tables → (ℕ → Bytes) → ℕ → List Entry
-entry_at t body k = pick (place_at t k).present ((slice_index tag_words k, body k) ∷ []) []
+entry_at t body k = pick (present_at t k) ((slice_index tag_words k, body k) ∷ []) []
 
 unfoldable pub entries_to : Tables → (ℕ → Bytes) → ℕ → List Entry
 entries_to t body zero = []
@@ -89,7 +85,7 @@ marks c =
 
 -- just the tables that the font has are marked
 abbrev pub Marked : Contents → Tables → Type 0
-Marked c t = (k : ℕ) → k < 11 → (place_at t k).present ≡ slice_index_or (marks c) k false
+Marked c t = (k : ℕ) → k < 11 → present_at t k ≡ slice_index_or (marks c) k false
 
 -- the tables that stand in the output at their places
 unfoldable pub laid : Bytes → Tables → List Entry
@@ -101,12 +97,12 @@ Stands out at bs = part out at (length bs) ≡ bs
 
 -- contents are as long as the places say
 abbrev pub Sized : Tables → (ℕ → Bytes) → Type 0
-Sized t body = (k : ℕ) → k < 11 → (place_at t k).present ≡ true → length (body k) ≡ (place_at t k).length
+Sized t body = (k : ℕ) → k < 11 → present_at t k ≡ true → length (body k) ≡ (place_at t k).length
 
 -- one behind the other, the first behind the directory
 pub record Placed (new : Layout) : Type 0 where
   pub counts : new.count ≡ count_to new.tables 11
-  pub offsets : (k : ℕ) → k < 11 → (place_at new.tables k).offset ≡ start_at (directory_length new.count) new.tables k
+  pub offsets : (k : ℕ) → k < 11 → present_at new.tables k ≡ true → (place_at new.tables k).offset ≡ start_at (directory_length new.count) new.tables k
   pub ends : new.end ≡ start_at (directory_length new.count) new.tables 11
 
 -- all tables stand in the output, zero-padded; head (number 3) is there, and long enough for its adjustment
@@ -115,7 +111,7 @@ pub record Ready (out : Bytes) (new : Layout) : Type 0 where
   pub stands : Stands out (directory_length new.count) (bodies (laid out new.tables))
   pub room : new.end ≤ length out
   pub small : new.end ≤ 4294967295
-  pub head : (place_at new.tables 3).present ≡ true
+  pub head : present_at new.tables 3 ≡ true
   pub long : 12 ≤ (place_at new.tables 3).length
 
 -- a number is handed back, and these bytes are left
@@ -125,7 +121,7 @@ pub record Leaves (n : ℕ) (bytes : Bytes) (r : ℕ) (out : Bytes) : Type 0 whe
 
 -- table number k, if it is there, written at its place and padded; and so the first k, with their contents
 unfoldable pub write_at : Layout → ℕ → Bytes → Bytes → Bytes
-write_at new k b out = pick (place_at new.tables k).present (put out (place_at new.tables k).offset (pad4 b)) out
+write_at new k b out = pick (present_at new.tables k) (put out (place_at new.tables k).offset (pad4 b)) out
 
 unfoldable pub write_to : Layout → (ℕ → Bytes) → Bytes → ℕ → Bytes
 write_to new body out zero = out

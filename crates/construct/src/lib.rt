@@ -27,27 +27,19 @@ struct Search {
 }
 
 // A length raised to a multiple of 4.
+#[tactic(auto, unfolding(crate::specs::Construct::raised))]
 fn raised(size: usize) -> usize
     requires { size ≤ 1099511627776 }
     ensures { result ≡ raised size }
 {
-    size + (4 - size % 4) % 4
+    size.next_multiple_of(4)
 }
 
 // How many tables there are.
 fn count(tables: Tables) -> usize
     ensures { result ≡ count_to tables 11 }
 {
-    let mut n = 0;
-    let mut k = 0;
-    while k < 11 {
-        let p = tables.places[k];
-        if p.present {
-            n += 1;
-        }
-        k += 1;
-    }
-    n
+    tables.places.iter().filter(|p| p.is_some()).count()
 }
 
 // "tables each zero-padded to 4", one behind the other in tag order, the first behind the directory. Of `sized` it reads which
@@ -57,25 +49,13 @@ pub fn lay_out(sized: Tables) -> Layout
     ensures { result ≡ laid_out sized }
 {
     let count = count(sized);
-    let none = Place {
-        offset: 0,
-        length: 0,
-        present: false,
-    };
-    let mut tables = Tables { places: [none; 11] };
+    let mut tables = sized;
     let mut at = 12 + 16 * count;
-    let mut k = 0;
-    while k < 11 {
-        let p = sized.places[k];
-        tables.places[k] = Place {
-            offset: at,
-            length: p.length,
-            present: p.present,
-        };
-        if p.present {
+    for place in tables.places.iter_mut() {
+        if let Some(p) = place {
+            p.offset = at;
             at += raised(p.length);
         }
-        k += 1;
     }
     Layout {
         tables,
@@ -85,6 +65,7 @@ pub fn lay_out(sized: Tables) -> Layout
 }
 
 // The zeros behind a table of this size that starts at `at`.
+#[tactic(auto, unfolding(crate::specs::Construct::raised))]
 pub fn pad(out: &mut [u8], at: usize, size: usize)
     requires { at + raised size ≤ length out.old }
     ensures { out.new ≡ put out.old (at + size) (replicate ((4 - size % 4) % 4) 0) }
@@ -92,28 +73,25 @@ pub fn pad(out: &mut [u8], at: usize, size: usize)
     write::zeros(out, at + size, (4 - size % 4) % 4);
 }
 
-// "search range, selector": by halving; the crate takes a logarithm in f32.
-fn halvings(count: usize) -> Search
+// "search range, selector": the crate takes a logarithm in f32.
+fn search_of(count: usize) -> Search
     requires { (1 ≤ count) × (count ≤ 4095) }
     ensures { result ≡ searched count }
 {
-    let mut selector = 0;
-    let mut range = 16;
-    let mut left = count;
-    while 2 <= left {
-        left /= 2;
-        range *= 2;
-        selector += 1;
+    let selector = count.ilog2();
+    Search {
+        selector: selector as usize,
+        range: 16 << selector,
     }
-    Search { selector, range }
 }
 
 // "word 0x00010000, table count, search range, selector, shift"
+#[tactic(auto, using(crate::proofs::Halves::range_small, crate::proofs::Halves::selector_small), unfolding(crate::specs::Construct::searched))]
 fn write_header(out: &mut [u8], count: usize)
     requires { (1 ≤ count) × (count ≤ 4095) × (12 ≤ length out.old) }
     ensures { out.new ≡ over (header count) out.old }
 {
-    let s = halvings(count);
+    let s = search_of(count);
     write::put_u32(out, 0, 0x0001_0000);
     write::put_u16(out, 4, count as u16);
     write::put_u16(out, 6, s.range as u16);
@@ -142,17 +120,13 @@ fn write_rows(out: &mut [u8], new: Layout) -> u32
     requires { Ready out.old new }
     ensures { Leaves (checksum (bodies (laid out.old new.tables))) (put out.old 12 (rows_from (directory_length new.count) (laid out.old new.tables))) result out.new }
 {
-    let tables = new.tables;
     let mut sum: u32 = 0;
     let mut at = 12;
-    let mut k = 0;
-    while k < 11 {
-        let p = tables.places[k];
-        if p.present {
-            sum = std::num::wrapping_add_u32(sum, write_row(out, at, k, p));
+    for (k, place) in new.tables.places.iter().enumerate() {
+        if let Some(p) = place {
+            sum = sum.wrapping_add(write_row(out, at, k, *p));
             at += 16;
         }
-        k += 1;
     }
     sum
 }
@@ -163,8 +137,8 @@ fn adjust(out: &mut [u8], directory: usize, head: usize, sum: u32)
     requires { (directory ≤ length out.old) × (head + 12 ≤ length out.old) }
     ensures { out.new ≡ put out.old (head + 8) (be32 (adjusting ((checksum (take directory out.old) + sum) % 2 ^ 32))) }
 {
-    let s = std::num::wrapping_add_u32(read::checksum(read::part(out, 0, directory)), sum);
-    write::put_u32(out, head + 8, std::num::wrapping_sub_u32(0xB1B0_AFBA, s));
+    let s = read::checksum(read::part(out, 0, directory)).wrapping_add(sum);
+    write::put_u32(out, head + 8, 0xB1B0_AFBA_u32.wrapping_sub(s));
 }
 
 // The directory before the tables that stand in `out`, then head's adjustment. That head's bytes 8 to 11 are zero until then is
@@ -173,10 +147,8 @@ pub fn finish(out: &mut [u8], new: Layout)
     requires { Ready out.old new }
     ensures { out.new ≡ over (file (laid out.old new.tables)) out.old }
 {
-    let tables = new.tables;
-    let count = new.count;
-    let head = tables.places[places::HEAD];
+    let head = new.tables.places[places::HEAD].unwrap();
     let sum = write_rows(out, new);
-    write_header(out, count);
-    adjust(out, 12 + 16 * count, head.offset, sum);
+    write_header(out, new.count);
+    adjust(out, 12 + 16 * new.count, head.offset, sum);
 }

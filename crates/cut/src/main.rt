@@ -5,19 +5,11 @@
 ghost use Rattle.std.specs.Prelude.{◌≤◌, length, IfOk};
 ghost use Rattle.lines.specs.Ids.{room};
 
-use answer::Answer;
-use lines::{Listed, Reading};
+use lines::{BadList, Reading};
 use std::fs::File;
 use std::io::{Read, Write};
 use std::rt::Files;
 use std::{fs, io};
-
-// The list, read so far, and whether there may be more of it.
-#[derive(Drop)]
-struct Piece {
-    reading: Reading,
-    more: bool,
-}
 
 // "a missing file counts as empty"
 fn read_font<R: Files>(rt: &R, font: &mut [u8]) -> io::Result<usize>
@@ -29,29 +21,20 @@ fn read_font<R: Files>(rt: &R, font: &mut [u8]) -> io::Result<usize>
     }
 }
 
-fn read_piece<R: Read>(input: &mut R, s: Reading, ids: &mut [u16]) -> io::Result<Piece> {
-    let mut text = [0u8; 4096];
-    let n = records::read_full(input, &mut text)?;
-    let reading = lines::feed(s, &text[..n], ids);
-    Ok(Piece {
-        reading,
-        more: n == 4096,
-    })
-}
-
 // The whole of standard input. A proved loop has to end, so it counts turns, to a number that no run uses up.
-fn read_list<R: Read>(input: &mut R, ids: &mut [u16]) -> io::Result<Listed>
+fn read_list<R: Read>(input: &mut R, ids: &mut [u16]) -> io::Result<Result<usize, BadList>>
     ensures { IfOk result (λ listed. room listed ≤ length ids.new) }
 {
-    let mut s = lines::begin();
+    let mut reading = Reading::begin();
+    let mut text = [0u8; 4096];
     for _ in 0..u64::MAX {
-        let p = read_piece(input, s, ids)?;
-        s = p.reading;
-        if !p.more {
+        let n = records::read_full(input, &mut text)?;
+        reading.feed(&text[..n], ids);
+        if n < text.len() {
             break;
         }
     }
-    Ok(lines::finish(s, ids))
+    Ok(reading.finish(ids))
 }
 
 // A file that can't be written is told on standard error; the roster is printed all the same.
@@ -81,12 +64,11 @@ fn cut<R: Files + Print + Eprint>(rt: &R, font: &[u8], ids: &[u16]) -> io::Resul
     let mut scratch = [0u16; 8192];
     let mut out = [0u8; 32768];
     match subset::subset(font, 0, ids, &mut scratch, &mut out) {
-        Answer::Font { kept, length } => {
-            save(rt, &out[..length])?;
-            print_kept(rt, &scratch[..kept], length)
+        Ok(font) => {
+            save(rt, &out[..font.length])?;
+            print_kept(rt, &scratch[..font.kept], font.length)
         }
-        Answer::No(k) => print_refused(rt, k),
-        Answer::Short(_) => print_refused(rt, 6),
+        Err(refusal) => print_refused(rt, refusal.number()),
     }
 }
 
@@ -99,7 +81,7 @@ fn main(rt: HostRuntime) -> io::Result<()> {
     let mut ids = [0u16; 1024];
     let mut input = rt.reader();
     match read_list(&mut input, &mut ids)? {
-        Listed::Bad => println!(rt; "bad list"),
-        Listed::Ids(k) => cut(&rt, &font[..n], &ids[..k]),
+        Ok(k) => cut(&rt, &font[..n], &ids[..k]),
+        Err(bad) => println!(rt; "{bad}"),
     }
 }

@@ -1,4 +1,4 @@
-pub mod Kind
+pub mod Starts
 pub mod Tags
 pub mod Found
 pub mod Gather

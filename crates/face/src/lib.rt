@@ -2,125 +2,85 @@
 // A tag is four bytes, compared as an array.
 #![tactic(auto)]
 
-ghost use Rattle.std.specs.Prelude.{◌≡◌, ◌+◌, ◌*◌, ◌≤◌, ◌<◌, ltb, leb, eqb, length};
+ghost use Rattle.std.specs.Prelude.{◌≡◌, ◌+◌, ◌*◌, ◌≤◌, ◌<◌, leb, length, position, nat_eq};
+ghost use Rattle.std.specs.Cmp.Lexicographic.{pointwise};
 ghost use Rattle.model.specs.Res.{both};
-ghost use Rattle.model.specs.Bytes.{word32, place};
-ghost use Rattle.model.specs.Font.{outlines, face_start, face_at, ascending, row_of, rows};
-ghost use Rattle.places.specs.Places.{tag_words, content_at, nowhere, Within};
-ghost use Rattle.face.specs.Opening.{start_of, row_place, noted_row, noted_rows, refusal_in, OpenedAt, Opened};
+ghost use Rattle.model.specs.Bytes.{part};
+ghost use Rattle.model.specs.Font.{face_start, face_at, ascending, row_of, rows};
+ghost use Rattle.places.specs.Places.{content_at, nowhere, Within};
+ghost use Rattle.answer.specs.Answers.{res_of};
+ghost use Rattle.face.specs.Opening.{kind_at, row_place, noted_row, noted_rows, there, tested, OpenedAt, Opened};
 
-use places::{Place, TAGS, Tables};
+use answer::Refusal;
+use places::{GLYF, HEAD, HHEA, HMTX, LOCA, MAXP, Place, TAGS, Tables};
 
-// The tables, or the refusal (0: none).
+// Step 1's kinds.
 #[derive(Clone, Copy)]
-pub struct Face {
-    pub refusal: u32,
-    pub tables: Tables,
-}
-
-#[derive(Clone, Copy)]
-pub enum Start {
-    At(usize),
-    No(u32),
+enum Kind {
+    TrueType,
+    Cff,
+    Collection,
 }
 
 // The tag that stands at a place.
 fn tag_at(b: &[u8], at: usize) -> [u8; 4]
     requires { at + 4 ≤ length b.now }
-    ensures { word32 result 0 ≡ word32 b.now at }
+    ensures { result ≡ part b.now at 4 }
 {
     [b[at], b[at + 1], b[at + 2], b[at + 3]]
 }
 
-fn wide(x: u8) -> u32
-    ensures { (result ≡ x) × (result < 256) }
+// Which of the eleven tags it is.
+fn known(tag: [u8; 4]) -> Option<usize>
+    ensures { result ≡ position (λ t. pointwise nat_eq t tag) TAGS }
 {
-    x as u32
+    TAGS.iter().position(|t| *t == tag)
 }
 
-// Four bytes as one word: words order as the arrays do, byte by byte from the first.
-fn word(tag: [u8; 4]) -> u32
-    ensures { result ≡ word32 tag 0 }
+// What the word at a place says that the font is, if it says one of step 1's kinds.
+fn kind_at(font: &[u8], at: usize) -> Option<Kind>
+    ensures { result ≡ kind_at font.now at }
 {
-    (wide(tag[0]) * 0x100 + wide(tag[1])) * 0x1_0000 + (wide(tag[2]) * 0x100 + wide(tag[3]))
-}
-
-// Strict ascent.
-fn below(a: [u8; 4], b: [u8; 4]) -> bool
-    ensures { result ≡ ltb (word32 a 0) (word32 b 0) }
-{
-    word(a) < word(b)
-}
-
-fn same(a: [u8; 4], b: [u8; 4]) -> bool
-    ensures { result ≡ eqb (word32 a 0) (word32 b 0) }
-{
-    word(a) == word(b)
-}
-
-// Which of the eleven tags it is; 11 for another.
-fn known(tag: [u8; 4]) -> usize
-    ensures { result ≡ place tag_words (word32 tag 0) }
-{
-    let mut k = 0;
-    while k < 11 {
-        if same(tag, TAGS[k]) {
-            return k;
-        }
-        k += 1;
+    if !read::holds(font, at, 4) {
+        return None;
     }
-    11
-}
-
-// Whether a kind word says TrueType outlines.
-fn outlines(kind: u32) -> bool
-    ensures { result ≡ outlines kind }
-{
-    if kind == 0x00010000 {
-        return true;
+    match read::u32_at(font, at) {
+        0x0001_0000 | 0x7472_7565 => Some(Kind::TrueType),
+        0x4F54_544F => Some(Kind::Cff),
+        0x7474_6366 => Some(Kind::Collection),
+        _ => None,
     }
-    kind == 0x74727565
 }
 
 // A face of a collection.
-fn face_at(font: &[u8], at: usize) -> Start
-    ensures { start_of result ≡ face_at font.now at }
+#[tactic(auto, using(crate::proofs::Starts::face_at_by_kind))]
+fn face_at(font: &[u8], at: usize) -> Result<usize, Refusal>
+    ensures { res_of result ≡ face_at font.now at }
 {
-    if !read::holds(font, at, 4) {
-        return Start::No(3);
+    match kind_at(font, at) {
+        Some(Kind::TrueType) => Ok(at),
+        Some(Kind::Cff) => Err(Refusal::NotTrueType),
+        Some(Kind::Collection) | None => Err(Refusal::MalformedFont),
     }
-    let kind = read::u32_at(font, at);
-    if kind == 0x4F54544F {
-        return Start::No(2);
-    }
-    if outlines(kind) {
-        return Start::At(at);
-    }
-    Start::No(3)
 }
 
 // Step 1: where the face starts.
-fn face_start(font: &[u8], index: u32) -> Start
-    ensures { start_of result ≡ face_start font.now index }
+#[tactic(auto, using(crate::proofs::Starts::face_start_by_kind))]
+fn face_start(font: &[u8], index: u32) -> Result<usize, Refusal>
+    ensures { res_of result ≡ face_start font.now index }
 {
-    if font.len() < 4 {
-        return Start::No(1);
+    match kind_at(font, 0) {
+        Some(Kind::TrueType) => Ok(0),
+        Some(Kind::Cff) => Err(Refusal::NotTrueType),
+        Some(Kind::Collection) => {
+            let at = 12 + 4 * (index as usize);
+            if !read::holds(font, at, 4) {
+                return Err(Refusal::MalformedFont);
+            }
+            face_at(font, read::u32_at(font, at) as usize)
+        }
+        None => Err(Refusal::UnknownKind),
     }
-    let kind = read::u32_at(font, 0);
-    if outlines(kind) {
-        return Start::At(0);
-    }
-    if kind == 0x4F54544F {
-        return Start::No(2);
-    }
-    if kind != 0x74746366 {
-        return Start::No(1);
-    }
-    let at = 12 + 4 * (index as usize);
-    if !read::holds(font, at, 4) {
-        return Start::No(3);
-    }
-    face_at(font, read::u32_at(font, at) as usize)
 }
 
 // Whether the records' tags ascend strictly.
@@ -128,18 +88,17 @@ fn ascends(dir: &[u8], count: usize) -> bool
     requires { 16 * count ≤ length dir.now }
     ensures { result ≡ ascending (rows count dir.now) }
 {
-    let mut i = 1;
-    while i < count {
-        if !below(tag_at(dir, 16 * i - 16), tag_at(dir, 16 * i)) {
+    for i in 1..count {
+        if tag_at(dir, 16 * i - 16) >= tag_at(dir, 16 * i) {
             return false;
         }
-        i += 1;
     }
     true
 }
 
-// The place that a record gives; one past the file is missing.
-fn place_of(font: &[u8], row: &[u8]) -> Place
+// The place that a record gives, if it is in the file.
+#[tactic(auto, unfolding(crate::specs::Opening::row_place, read::specs::Reading::extent_of))]
+fn place_of(font: &[u8], row: &[u8]) -> Option<Place>
     requires { 16 ≤ length row.now }
     ensures { result ≡ row_place font.now (row_of row.now) }
 {
@@ -147,35 +106,22 @@ fn place_of(font: &[u8], row: &[u8]) -> Place
     let offset = extent.offset as usize;
     let length = extent.length as usize;
     if read::holds(font, offset, length) {
-        return Place {
-            offset,
-            length,
-            present: true,
-        };
+        return Some(Place { offset, length });
     }
-    Place {
-        offset: 0,
-        length: 0,
-        present: false,
-    }
+    None
 }
 
 // The places once a record more is noted. The first usable one of a tag counts; the tags ascend, so there is no other.
-fn noted(font: &[u8], row: &[u8], t: Tables) -> Tables
+fn noted(font: &[u8], row: &[u8], mut t: Tables) -> Tables
     requires { 16 ≤ length row.now }
     ensures { result ≡ noted_row font.now (row_of row.now) t }
 {
-    let k = known(tag_at(row, 0));
-    if 11 <= k {
-        return t;
+    if let Some(k) = known(tag_at(row, 0)) {
+        if t.places[k].is_none() {
+            t.places[k] = place_of(font, row);
+        }
     }
-    let old = t.places[k];
-    if old.present {
-        return t;
-    }
-    let mut next = t;
-    next.places[k] = place_of(font, row);
-    next
+    t
 }
 
 // The places of the tables that the records give.
@@ -183,110 +129,79 @@ fn find_places(font: &[u8], dir: &[u8], count: usize) -> Tables
     requires { 16 * count ≤ length dir.now }
     ensures { result ≡ noted_rows font.now (rows count dir.now) nowhere }
 {
-    let mut t = Tables {
-        places: [Place {
-            offset: 0,
-            length: 0,
-            present: false,
-        }; 11],
-    };
-    let mut i = 0;
-    while i < count {
-        let at = 16 * i;
-        t = noted(font, &dir[at..], t);
-        i += 1;
+    let mut t = Tables { places: [None; 11] };
+    for i in 0..count {
+        t = noted(font, &dir[16 * i..], t);
     }
     t
 }
 
-// Whether a table is there, with its least length.
-fn there(p: Place, least: usize) -> bool
-    ensures { result ≡ both p.present (leb least p.length) }
+// Whether table number k is there, with its least length.
+fn there(t: Tables, k: usize, least: usize) -> bool
+    requires { k < 11 }
+    ensures { result ≡ there t k least }
 {
-    if !p.present {
-        return false;
+    match t.places[k] {
+        Some(p) => least <= p.length,
+        None => false,
     }
-    least <= p.length
 }
 
 // Step 3's tests, in its order.
-fn refusal_of(t: Tables) -> u32
-    ensures { result ≡ refusal_in t }
+fn test(t: Tables) -> Result<(), Refusal>
+    ensures { res_of result ≡ tested t }
 {
-    if !there(t.places[2], 0) {
-        return 2;
+    if !there(t, GLYF, 0) {
+        return Err(Refusal::NotTrueType);
     }
-    if !there(t.places[6], 0) {
-        return 3;
+    let others = there(t, LOCA, 0)
+        && there(t, HEAD, 52)
+        && there(t, HHEA, 36)
+        && there(t, HMTX, 0)
+        && there(t, MAXP, 6);
+    if !others {
+        return Err(Refusal::MalformedFont);
     }
-    if !there(t.places[3], 52) {
-        return 3;
-    }
-    if !there(t.places[4], 36) {
-        return 3;
-    }
-    if !there(t.places[5], 0) {
-        return 3;
-    }
-    if !there(t.places[7], 6) {
-        return 3;
-    }
-    0
-}
-
-fn refused(k: u32) -> Face
-    ensures { (result.refusal ≡ k) × (result.tables ≡ nowhere) }
-{
-    Face {
-        refusal: k,
-        tables: Tables {
-            places: [Place {
-                offset: 0,
-                length: 0,
-                present: false,
-            }; 11],
-        },
-    }
+    Ok(())
 }
 
 // Steps 2 and 3, of the face that starts at a place.
-fn open_at(font: &[u8], at: usize) -> Face
+fn open_at(font: &[u8], at: usize) -> Result<Tables, Refusal>
     ensures { OpenedAt font.now at result }
 {
     if !read::holds(font, at, 12) {
-        return refused(3);
+        return Err(Refusal::MalformedFont);
     }
-    let count = read::u16_at(font, at + 4) as usize;
+    let count = usize::from(read::u16_at(font, at + 4));
     let from = at + 12;
     if !read::holds(font, from, 16 * count) {
-        return refused(3);
+        return Err(Refusal::MalformedFont);
     }
     let dir = &font[from..];
     if !ascends(dir, count) {
-        return refused(3);
+        return Err(Refusal::MalformedFont);
     }
     let t = find_places(font, dir, count);
-    Face {
-        refusal: refusal_of(t),
-        tables: t,
-    }
+    test(t)?;
+    Ok(t)
 }
 
 // Steps 1 to 3.
-pub fn open(font: &[u8], index: u32) -> Face
+pub fn open(font: &[u8], index: u32) -> Result<Tables, Refusal>
     ensures { Opened font.now index result }
 {
-    match face_start(font, index) {
-        Start::No(k) => refused(k),
-        Start::At(at) => open_at(font, at),
-    }
+    let at = face_start(font, index)?;
+    open_at(font, at)
 }
 
 // A table's contents: a part of the caller's font.
+#[tactic(auto, unfolding(places::specs::Places::content_at))]
 pub fn table(font: &[u8], t: Tables, k: usize) -> &[u8]
     requires { (k < 11) × Within font.now t }
     ensures { result.now ≡ content_at font.now t k }
 {
-    let p = t.places[k];
-    read::part(font, p.offset, p.length)
+    match t.places[k] {
+        Some(p) => read::part(font, p.offset, p.length),
+        None => &[],
+    }
 }

@@ -1,12 +1,6 @@
 -- A composite is copied as far as it is kept; then, record by record, the bytes done have new ids and the bytes left are as they were.
-use mathlib.Core.Path.{◌≡◌, refl, sym, ap, ap₂, ◌∙◌}
-use mathlib.Core.Bool.{Bool, true, false}
-use mathlib.Core.List.{[], ◌++◌, map, append_assoc, append-nil}
-use Prim.Native.Nat.{ℕ, ◌+◌, ◌-◌, ◌≤◌}
-use native.Mathlib.Omega.{arith}
-use native.Mathlib.Nat.{add-sub_of_le, sub_self}
-use lib.ListN.{length, take, drop, length-append}
-use lib.Seq.{length-take-le, take-add}
+use Rattle.std.proofs.Common.{◌≡◌, refl, sym, ap, ap₂, ◌∙◌, Bool, true, false, [], ◌++◌, map, append_assoc, append-nil, None, Some, ℕ, ◌+◌, ◌-◌, ◌≤◌, arith, add-sub_of_le, length, take, drop, length-append, length-take-le, take-add}
+use native.Mathlib.Nat.{sub_self}
 use Rattle.model.specs.Res.{Res, refuse, ok, pick, map_res, is_ok, value_of}
 use Rattle.model.specs.Bytes.{Bytes, be16, part, put, concat}
 use Rattle.model.specs.Outline.{Outline, composite, outline, Records, before, id_of, renumber_record, renumber, written}
@@ -15,8 +9,9 @@ use Rattle.model.proofs.Bytes.{length-put}
 use Rattle.model.proofs.Parts.{tail}
 use Rattle.model.proofs.Outline.{length-renumber_record}
 use Rattle.outline.specs.Places.{component_at, rest, end_from, shape_of, kept_length}
+use Rattle.outline.specs.declared.Component.{Component}
 use Rattle.outline.specs.declared.Component.TheVariants as component
-use Rattle.outline.specs.declared.Shape.TheVariants.{Empty, Simple, Composite, Bad}
+use Rattle.outline.specs.declared.Shape.TheVariants.{Empty, Simple, Composite}
 use Rattle.outline.proofs.Records.{map-map, length_part, Taken, taken_more, taken-last, taken-id, taken-length, rest_more, rest-last, end_more, end_last, end_bad}
 use Rattle.outline.proofs.Glyphs.{outline-by, outline_by, kept_by_lem, kept_by, composite_ten, end_within}
 use Rattle.glyf.specs.Pieces.{bytes_of, Placed}
@@ -34,35 +29,35 @@ tail_bytes new rs = concat (map (renumber_record new) rs.0) ++ rs.1
 unfoldable pub rest_bytes : ℕ → (ℕ → ℕ) → Bytes → ℕ → Bytes → Res Bytes
 rest_bytes n new b p done = map_res (λ (rs : Records). done ++ tail_bytes new rs) (rest n b p)
 
-composite-bytes : (n : ℕ) (new : ℕ → ℕ) (b : Bytes) → shape_of b ≡ Composite → bytes_of n new b ≡ value_of [] (rest_bytes n new b 10 (take 10 b))
+composite-bytes : (n : ℕ) (new : ℕ → ℕ) (b : Bytes) → shape_of b ≡ Some Composite → bytes_of n new b ≡ value_of [] (rest_bytes n new b 10 (take 10 b))
 unfolding bytes_of rest_bytes outline_by
 composite-bytes n new b e =
     ap (λ m. value_of [] (map_res (λ (o : Outline). written (renumber new o)) m)) (outline-by n b ∙ ap (outline_by n b) e)
     ∙ ap (value_of []) (map-map (λ (r : Records). composite (take 10 b) r.0 r.1) (λ (o : Outline). written (renumber new o)) (rest n b 10))
 
-pub composite_end : (n : ℕ) (b : Bytes) → shape_of b ≡ Composite → kept_length n b ≡ value_of 0 (end_from n b 10)
+pub composite_end : (n : ℕ) (b : Bytes) → shape_of b ≡ Some Composite → kept_length n b ≡ value_of 0 (end_from n b 10)
 unfolding kept_by
 composite_end n b e = kept_by_lem n b ∙ ap (kept_by n b) e
 
-pub composite-whole : (n : ℕ) (b : Bytes) → shape_of b ≡ Composite → is_ok (outline n b) ≡ true → is_ok (rest n b 10) ≡ true
+pub composite-whole : (n : ℕ) (b : Bytes) → shape_of b ≡ Some Composite → is_ok (outline n b) ≡ true → is_ok (rest n b 10) ≡ true
 unfolding outline_by
 composite-whole n b e h =
     sym (is_ok-map (λ (r : Records). composite (take 10 b) r.0 r.1) (rest n b 10)) ∙ sym (ap is_ok (outline-by n b ∙ ap (outline_by n b) e)) ∙ h
 
 -- the other shapes
-pub simple-bytes : (n : ℕ) (new : ℕ → ℕ) (b : Bytes) → shape_of b ≡ Simple → bytes_of n new b ≡ b
+pub simple_bytes : (n : ℕ) (new : ℕ → ℕ) (b : Bytes) → shape_of b ≡ Some Simple → bytes_of n new b ≡ b
 unfolding bytes_of outline_by
-simple-bytes n new b e = ap (λ m. value_of [] (map_res (λ (o : Outline). written (renumber new o)) m)) (outline-by n b ∙ ap (outline_by n b) e)
+simple_bytes n new b e = ap (λ m. value_of [] (map_res (λ (o : Outline). written (renumber new o)) m)) (outline-by n b ∙ ap (outline_by n b) e)
 
-pub simple-length : (n : ℕ) (b : Bytes) → shape_of b ≡ Simple → kept_length n b ≡ length b
+pub simple_length : (n : ℕ) (b : Bytes) → shape_of b ≡ Some Simple → kept_length n b ≡ length b
 unfolding kept_by
-simple-length n b e = kept_by_lem n b ∙ ap (kept_by n b) e
+simple_length n b e = kept_by_lem n b ∙ ap (kept_by n b) e
 
-pub empty-bytes : (n : ℕ) (new : ℕ → ℕ) (b : Bytes) → shape_of b ≡ Empty → bytes_of n new b ≡ []
+pub empty_bytes : (n : ℕ) (new : ℕ → ℕ) (b : Bytes) → shape_of b ≡ Some Empty → bytes_of n new b ≡ []
 unfolding bytes_of outline_by
-empty-bytes n new b e = ap (λ m. value_of [] (map_res (λ (o : Outline). written (renumber new o)) m)) (outline-by n b ∙ ap (outline_by n b) e)
+empty_bytes n new b e = ap (λ m. value_of [] (map_res (λ (o : Outline). written (renumber new o)) m)) (outline-by n b ∙ ap (outline_by n b) e)
 
-pub never_bad : {C : Type 0} (n : ℕ) (b : Bytes) → shape_of b ≡ Bad → is_ok (outline n b) ≡ true → C
+pub never_bad : {C : Type 0} (n : ℕ) (b : Bytes) → shape_of b ≡ None → is_ok (outline n b) ≡ true → C
 unfolding outline_by
 never_bad n b e h = true_false (sym h ∙ ap is_ok (outline-by n b ∙ ap (outline_by n b) e))
 
@@ -73,7 +68,7 @@ renumber-put new r id e = ap (λ (x : ℕ). take 2 r ++ be16 (new x) ++ drop 4 r
 
 -- the bytes to be written are a composite that was read, and have room
 pub record Copied (n : ℕ) (b : Bytes) (kept at : ℕ) (d : Bytes) : Type 0 where
-  pub is-composite : shape_of b ≡ Composite
+  pub is-composite : shape_of b ≡ Some Composite
   pub readable : is_ok (outline n b) ≡ true
   pub is-kept : kept ≡ kept_length n b
   pub room : at + kept ≤ length d
@@ -148,14 +143,14 @@ module _ {n : ℕ} {new : ℕ → ℕ} {b : Bytes} {kept at : ℕ} {d out : Byte
     same_here : (after : Bytes) → after ≡ put out (at + p + 2) (be16 (new id)) → length after ≡ length d
     same_here after e = ap length e ∙ length-put out (at + p + 2) (be16 (new id)) (omega (arith, g.same, t.ahead, up, g.copied.room)) ∙ g.same
 
-  module _ {id next : ℕ} (e : component_at n b p ≡ component.More id next) where
+  module _ {id next : ℕ} (e : component_at n b p ≡ Some (component.More id next)) where
     more-end : end_from n b 10 ≡ end_from n b next
     more-end = g.ends ∙ end_more n b p e
 
     more-up : next ≤ kept
     more-up = reach g.copied next more-end
 
-    pub more_within : p + 6 ≤ kept
+    more_within : p + 6 ≤ kept
     more_within = omega (arith, (taken_more n b p e).ahead, more-up)
 
     rest-here : (done : Bytes) → rest_bytes n new b p done ≡ rest_bytes n new b next (done ++ renumber_record new (part b p (next - p)))
@@ -185,7 +180,7 @@ module _ {n : ℕ} {new : ℕ → ℕ} {b : Bytes} {kept at : ℕ} {d out : Byte
           same = same_here (taken_more n b p e) more-up after q;
         }
 
-  module _ {id next : ℕ} {keep : Bool} (e : component_at n b p ≡ component.Last id next keep) where
+  module _ {id next : ℕ} {keep : Bool} (e : component_at n b p ≡ Some (component.Last id next keep)) where
     last_end : kept ≡ pick keep (length b) next
     last_end = is_end g.copied ∙ ap (value_of 0) (g.ends ∙ end_last n b p e)
 
@@ -196,7 +191,7 @@ module _ {n : ℕ} {new : ℕ → ℕ} {b : Bytes} {kept at : ℕ} {d out : Byte
         go true h = omega (arith, h, (taken-last n b p e).within)
         go false h = omega (arith, h)
 
-    pub last_within : p + 6 ≤ kept
+    last_within : p + 6 ≤ kept
     last_within = omega (arith, (taken-last n b p e).ahead, last_up)
 
     last-bytes : (done : Bytes) → rest_bytes n new b p done ≡ ok (done ++ ((renumber_record new (part b p (next - p)) ++ []) ++ pick keep (drop next b) []))
@@ -223,12 +218,17 @@ module _ {n : ℕ} {new : ℕ → ℕ} {b : Bytes} {kept at : ℕ} {d out : Byte
         ∙ ap₂ (λ (x y : ℕ). x + y) (length-done (taken-last n b p e) last_up) (length-behind (taken-last n b p e) last_up)
         ∙ add-sub_of_le last_up
 
-    pub going-last : (after : Bytes) → after ≡ put out (at + p + 2) (be16 (new id)) → Placed d after at (at + kept) (bytes_of n new b)
-    going-last after q =
+    pub going_last : (after : Bytes) → after ≡ put out (at + p + 2) (be16 (new id)) → Placed d after at (at + kept) (bytes_of n new b)
+    going_last after q =
         record {
           is-put = q ∙ put-here (taken-last n b p e) last_up ∙ ap (put d at) (sym all-bytes);
           behind = ap (λ (x : ℕ). at + x) (sym all-length);
         }
 
-  pub going_bad : {C : Type 0} → component_at n b p ≡ component.Bad → C
+  -- a record at p, whichever it is, is among the kept bytes
+  pub found_within : (c : Component) → component_at n b p ≡ Some c → p + 6 ≤ kept
+  found_within (component.More id next) e = more_within e
+  found_within (component.Last id next keep) e = last_within e
+
+  pub going_bad : {C : Type 0} → component_at n b p ≡ None → C
   going_bad e = true_false (sym (whole g.copied) ∙ ap is_ok (g.ends ∙ end_bad n b p e))

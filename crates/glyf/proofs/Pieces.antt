@@ -1,13 +1,6 @@
 -- The roster's outlines, place by place: what each is, how long it is, and that the scratch has the numbers it needs.
-use mathlib.Core.Path.{◌≡◌, refl, sym, ap, ap₂, ◌∙◌}
-use mathlib.Core.Bool.{Bool, true, false}
-use mathlib.Core.List.{List, [], ◌∷◌, ◌++◌, map}
-use Prim.Native.Nat.{ℕ, zero, suc, ◌+◌, ◌*◌, ◌-◌, ◌/◌, ◌%◌, ◌≤◌, ◌<◌}
-use native.Mathlib.Omega.{arith}
-use native.Mathlib.Nat.{add-sub_cancel, min-le_right}
-use lib.Dec.{leb, eqb}
-use lib.ListN.{length, take, drop, get_or, length-take}
-use borrow.Author.Tests.{eq-eqb}
+use Rattle.std.proofs.Common.{◌≡◌, refl, sym, ap, ap₂, ◌∙◌, Bool, true, false, List, [], ◌∷◌, ◌++◌, map, None, Some, ℕ, zero, suc, ◌+◌, ◌*◌, ◌-◌, ◌/◌, ◌%◌, ◌≤◌, ◌<◌, arith, add-sub_cancel, leb, eqb, length, take, drop, get_or, length-take, eq-eqb}
+use native.Mathlib.Nat.{min-le_right}
 use Rattle.model.specs.Res.{Res, refuse, ok, either, need, map_res, each, is_ok, value_of, ◌>>=◌, ◌>>◌}
 use Rattle.model.specs.Bytes.{Bytes, part, member, place}
 use Rattle.model.specs.Font.{Tables}
@@ -15,8 +8,8 @@ use Rattle.model.specs.Glyf.{Width, short, long, width_of, entry_size, entry, gl
 use Rattle.model.specs.Outline.{Outline, empty, simple, composite, outline, components, id_of, renumber_record, renumber, written}
 use Rattle.model.specs.Cut.{count, outline_of, piece_of}
 use Rattle.model.proofs.Res.{true_false, EachOk, each_inv}
-use Rattle.outline.specs.Places.{span_at, span_of, kept_length}
-use Rattle.outline.specs.declared.Span.TheVariants.{At, Bad}
+use Rattle.outline.specs.Places.{span_at, span_bytes, span_of, kept_length}
+use Rattle.outline.specs.declared.Span.{Span}
 use Rattle.outline.proofs.Cases.{entry-long, entry-short}
 use Rattle.outline.proofs.Records.{map-map}
 use Rattle.outline.proofs.Glyphs.{span_reads, kept-renumbered, kept-within}
@@ -52,19 +45,19 @@ member-at (x ∷ xs) (suc i) h = there (eqb (get_or xs i 0) x) (member-at xs i (
 
 module _ (w : Width) (n : ℕ) (loca glyf : Bytes) where
   -- a glyph's outline, by where it stands
-  pub outline-there : (g : ℕ) {start end : ℕ} → span_at w loca glyf g ≡ At start end → outline_at w n loca glyf g ≡ outline n (part glyf start (end - start))
+  pub outline-there : (g : ℕ) {s : Span} → span_at w loca glyf g ≡ Some s → outline_at w n loca glyf g ≡ outline n (span_bytes glyf s)
   unfolding outline_at
   outline-there g e = ap (λ m. m >>= λ b. outline n b) (sym (span_reads w loca glyf g) ∙ ap (span_of glyf) e)
 
-  pub outline-nowhere : (g : ℕ) → span_at w loca glyf g ≡ Bad → outline_at w n loca glyf g ≡ refuse 3
+  pub outline-nowhere : (g : ℕ) → span_at w loca glyf g ≡ None → outline_at w n loca glyf g ≡ refuse 3
   unfolding outline_at
   outline-nowhere g e = ap (λ m. m >>= λ b. outline n b) (sym (span_reads w loca glyf g) ∙ ap (span_of glyf) e)
 
-  pub length-there : (g : ℕ) {start end : ℕ} → span_at w loca glyf g ≡ At start end → length_at w n loca glyf g ≡ kept_length n (part glyf start (end - start))
+  pub length-there : (g : ℕ) {s : Span} → span_at w loca glyf g ≡ Some s → length_at w n loca glyf g ≡ kept_length n (span_bytes glyf s)
   unfolding length_at kept_length
   length-there g e = ap (λ m. value_of 0 (map_res (λ (o : Outline). length (written o)) m)) (outline-there g e)
 
-  pub length-nowhere : (g : ℕ) → span_at w loca glyf g ≡ Bad → length_at w n loca glyf g ≡ 0
+  pub length-nowhere : (g : ℕ) → span_at w loca glyf g ≡ None → length_at w n loca glyf g ≡ 0
   unfolding length_at
   length-nowhere g e = ap (λ m. value_of 0 (map_res (λ (o : Outline). length (written o)) m)) (outline-nowhere g e)
 

@@ -1,15 +1,9 @@
 -- Bytes put over a part of what was put before.
-use mathlib.Core.Path.{◌≡◌, refl, sym, ap, ap₂, ◌∙◌}
-use mathlib.Core.List.{[], ◌++◌, append_assoc, append-nil}
-use Prim.Native.Nat.{ℕ, ◌+◌, ◌-◌, ◌≤◌}
-use native.Mathlib.Omega.{arith}
-use native.Mathlib.Nat.{add_assoc, add-zero, add-sub_of_le}
-use lib.ListN.{length, take, drop, length-append, length-take, length-drop, take-append-drop}
-use lib.Seq.{take-append-add, take-append-le, drop-append-add, drop-append-le, length-take-le, drop-drop, take-add}
+use Rattle.std.proofs.Common.{◌≡◌, refl, sym, ap, ap₂, ◌∙◌, [], ◌++◌, append_assoc, append-nil, ℕ, ◌+◌, ◌-◌, ◌≤◌, arith, add_assoc, add-zero, add-sub_of_le, length, take, drop, length-append, length-take, length-drop, take-append-drop, length-take-le, drop-drop, take-add}
+use lib.Seq.{take-append-add, take-append-le, drop-append-add, drop-append-le}
 use borrow.Rule.Slice.PartMut.{put_mid}
 use Rattle.model.specs.Bytes.{Bytes, put, part}
 use Rattle.model.proofs.Bytes.{length-put}
-use Rattle.model.proofs.Puts.{put_same}
 use Rattle.glyf.specs.Pieces.{Placed}
 
 -- behind x, a put reaches only k; inside r, only r
@@ -80,17 +74,6 @@ part-split b at next kept h k =
   where
     e : kept - at ≡ next - at + (kept - next)
     e = omega arith
-
--- bytes put again, as many
-pub put-twice : (d o x : Bytes) (at : ℕ) → at + length x ≤ length d → o ≡ put d at x → o ≡ put o at x
-put-twice d o x at h e = e ∙ sym (put_same d at x x refl h) ∙ ap (λ (z : Bytes). put z at x) (sym e)
-
-pub placed-again : (d o e k bytes : Bytes) (at next : ℕ) → o ≡ put d at k → at + length k ≤ length d → next ≡ at + length k → Placed o e at next bytes → Placed d e at next bytes
-placed-again d o e k bytes at next q h l p =
-    record {
-      is-put = p.is-put ∙ ap (λ (z : Bytes). put z at bytes) q ∙ put_same d at k bytes (omega (arith, l, p.behind)) (omega (arith, h, l, p.behind));
-      behind = p.behind;
-    }
 
 -- nothing put
 pub put-nothing : (d : Bytes) (at : ℕ) → put d at [] ≡ d

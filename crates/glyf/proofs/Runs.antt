@@ -1,15 +1,12 @@
 -- A run that is still to be copied: bytes put behind it make it longer, or it is copied first.
-use mathlib.Core.Path.{◌≡◌, refl, sym, ap, ap₂, ◌∙◌, subst}
-use mathlib.Core.Bool.{Bool, false}
-use mathlib.Core.List.{[], ◌++◌, append-nil}
-use Prim.Native.Nat.{ℕ, ◌+◌, ◌-◌, ◌%◌, ◌≤◌}
-use native.Mathlib.Omega.{arith}
-use lib.ListN.{length, take, drop, replicate, length-append, length-replicate}
-use lib.Seq.{take-add, drop-drop}
+use Rattle.std.proofs.Common.{◌≡◌, refl, sym, ap, ap₂, ◌∙◌, subst, Bool, false, [], ◌++◌, append-nil, ℕ, ◌+◌, ◌-◌, ◌%◌, ◌≤◌, arith, length, take, drop, replicate, length-append, take-add, drop-drop}
+use lib.ListN.{length-replicate}
 use Rattle.model.specs.Bytes.{Bytes, part, put}
 use Rattle.model.specs.Glyf.{Width, short, long, width, padded}
 use Rattle.model.proofs.Bytes.{length-put, put-put}
 use Rattle.model.proofs.Puts.{put-swap}
+use Rattle.outline.specs.Places.{span_bytes, Within}
+use Rattle.outline.specs.declared.Span.{Span}
 use Rattle.outline.proofs.Records.{length_part}
 use Rattle.glyf.specs.declared.Run.{Run}
 use Rattle.glyf.specs.Pieces.{raised_to, Placed, zeros_behind, with_run, RunRoom, Moved}
@@ -24,9 +21,9 @@ pub moved_nothing : {glyf : Bytes} {run : Run} {out bytes : Bytes} → RunRoom g
 moved_nothing {glyf} {run} {out} {bytes} r e = record { placed = placed-nothing (with_run glyf run out) bytes run.end e; left = r }
 
 -- one thing and then another
-pub moved-both : {glyf : Bytes} {run next last : Run} {d e f x y : Bytes} → run.end ≤ length (with_run glyf run d) → Moved glyf run d next e x → Moved glyf next e last f y
+pub moved_both : {glyf : Bytes} {run next last : Run} {d e f x y : Bytes} → run.end ≤ length (with_run glyf run d) → Moved glyf run d next e x → Moved glyf next e last f y
     → Moved glyf run d last f (x ++ y)
-moved-both {glyf} {run} {next} {last} {d} {e} {f} {x} {y} h m n =
+moved_both {glyf} {run} {next} {last} {d} {e} {f} {x} {y} h m n =
     record {
       placed =
           record {
@@ -60,38 +57,44 @@ module _ {glyf : Bytes} {run : Run} {out : Bytes} (r : RunRoom glyf run out) whe
   unfolding with_run
   run_aside to bytes h l = sym (put-swap out at waiting to bytes (omega (arith, ends)) l)
 
-  -- the bytes behind the run, from start on
-  module _ (start size : ℕ) (there : start + size ≤ length glyf) (room : run.end + size ≤ length out) where
-    pub moved-longer : start ≡ run.from + run.size → Moved glyf run out (record { from = run.from; size = run.size + size; end = run.end + size }) out (part glyf start size)
-    moved-longer e =
+  -- the bytes of a span, behind the run
+  module _ (s : Span) (h : Within glyf s) (room : run.end + (s.end - s.start) ≤ length out) where
+    abbrev size : ℕ
+    size = s.end - s.start
+
+    length_span : length (span_bytes glyf s) ≡ size
+    length_span = length_part glyf s.start size (omega (arith, h.up, h.inside))
+
+    pub moved_longer : s.start ≡ run.from + run.size → Moved glyf run out (record { from = run.from; size = run.size + size; end = run.end + size }) out (span_bytes glyf s)
+    moved_longer e =
         record {
-          placed = record { is-put = longer; behind = ap (λ (m : ℕ). run.end + m) (sym (length_part glyf start size there)) };
-          left = record { there = omega (arith, there, e); within = omega (arith, r.within); room = room };
+          placed = record { is-put = longer; behind = ap (λ (m : ℕ). run.end + m) (sym length_span) };
+          left = record { there = omega (arith, h.up, h.inside, e); within = omega (arith, r.within); room = room };
         }
       where
-        split : part glyf run.from (run.size + size) ≡ waiting ++ part glyf start size
+        split : part glyf run.from (run.size + size) ≡ waiting ++ span_bytes glyf s
         split = take-add run.size size (drop run.from glyf) ∙ ap (λ (l : Bytes). waiting ++ take size l) (drop-drop run.size run.from glyf ∙ ap (λ (m : ℕ). drop m glyf) (sym e))
 
-        longer : with_run glyf (record { from = run.from; size = run.size + size; end = run.end + size }) out ≡ put (with_run glyf run out) run.end (part glyf start size)
+        longer : with_run glyf (record { from = run.from; size = run.size + size; end = run.end + size }) out ≡ put (with_run glyf run out) run.end (span_bytes glyf s)
         longer =
             unfold with_run in ap₂ (λ (m : ℕ) (l : Bytes). put out m l) (omega (arith, r.within)) split
-            ∙ sym (put-put out waiting (part glyf start size) at (omega (arith, r.room)))
-            ∙ ap (λ (m : ℕ). put (put out at waiting) m (part glyf start size)) ends
+            ∙ sym (put-put out waiting (span_bytes glyf s) at (omega (arith, r.room)))
+            ∙ ap (λ (m : ℕ). put (put out at waiting) m (span_bytes glyf s)) ends
 
-    pub moved_new : (e : Bytes) → e ≡ with_run glyf run out → Moved glyf run out (record { from = start; size = size; end = run.end + size }) e (part glyf start size)
+    pub moved_new : (e : Bytes) → e ≡ with_run glyf run out → Moved glyf run out (record { from = s.start; size = size; end = run.end + size }) e (span_bytes glyf s)
     moved_new e q =
         record {
-          placed = record { is-put = begun; behind = ap (λ (m : ℕ). run.end + m) (sym (length_part glyf start size there)) };
-          left = record { there = there; within = omega arith; room = omega (arith, room, ap length q ∙ length_run) };
+          placed = record { is-put = begun; behind = ap (λ (m : ℕ). run.end + m) (sym length_span) };
+          left = record { there = omega (arith, h.up, h.inside); within = omega arith; room = omega (arith, room, ap length q ∙ length_run) };
         }
       where
-        begun : with_run glyf (record { from = start; size = size; end = run.end + size }) e ≡ put (with_run glyf run out) run.end (part glyf start size)
-        begun = unfold with_run in ap₂ (λ (z : Bytes) (m : ℕ). put z m (part glyf start size)) (unfold with_run in q) (omega arith)
+        begun : with_run glyf (record { from = s.start; size = size; end = run.end + size }) e ≡ put (with_run glyf run out) run.end (span_bytes glyf s)
+        begun = unfold with_run in ap₂ (λ (z : Bytes) (m : ℕ). put z m (span_bytes glyf s)) (unfold with_run in q) (omega arith)
 
   -- other bytes, put behind what was copied
-  pub moved-placed : (e f bytes : Bytes) (from next : ℕ) → e ≡ with_run glyf run out → Placed e f run.end next bytes → from ≤ length glyf → next ≤ length f
+  pub moved_placed : (e f bytes : Bytes) (from next : ℕ) → e ≡ with_run glyf run out → Placed e f run.end next bytes → from ≤ length glyf → next ≤ length f
       → Moved glyf run out (record { from = from; size = 0; end = next }) f bytes
-  moved-placed e f bytes from next q p h l =
+  moved_placed e f bytes from next q p h l =
       record {
         placed = record { is-put = no_run glyf f from next ∙ p.is-put ∙ ap (λ (z : Bytes). put z run.end bytes) q; behind = p.behind };
         left = record { there = omega (arith, h); within = omega arith; room = l };
@@ -112,12 +115,12 @@ odd_zero wide size e h = ap (λ (b : Bool). zeros_behind (width b) size) e ∙ a
     odd : (size % 2 ≡ 0 → ⊥) → size % 2 ≡ 1
     odd h = omega arith
 
-pub moved-zero : {glyf : Bytes} {run : Run} {out : Bytes} → RunRoom glyf run out → (wide : Bool) (size : ℕ) → wide ≡ false → (size % 2 ≡ 0 → ⊥)
+pub moved_zero : {glyf : Bytes} {run : Run} {out : Bytes} → RunRoom glyf run out → (wide : Bool) (size : ℕ) → wide ≡ false → (size % 2 ≡ 0 → ⊥)
     → run.end + length (zeros_behind (width wide) size) ≤ length out → (e f : Bytes) → e ≡ with_run glyf run out → f ≡ put e run.end (replicate 1 0)
     → Moved glyf run out (record { from = 0; size = 0; end = run.end + 1 }) f (zeros_behind (width wide) size)
-moved-zero {glyf} {run} {out} r wide size w h room e f q p =
+moved_zero {glyf} {run} {out} r wide size w h room e f q p =
     subst (Moved glyf run out (record { from = 0; size = 0; end = run.end + 1 }) f) (sym z)
-    (moved-placed r e f (replicate 1 0) 0 (run.end + 1) q (record { is-put = p; behind = refl }) (omega arith) (omega (arith, ap length z, l, m)))
+    (moved_placed r e f (replicate 1 0) 0 (run.end + 1) q (record { is-put = p; behind = refl }) (omega arith) (omega (arith, ap length z, l, m)))
   where
     z : zeros_behind (width wide) size ≡ replicate 1 0
     z = odd_zero wide size w h

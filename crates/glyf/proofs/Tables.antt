@@ -1,15 +1,6 @@
 -- The tables grow outline by outline: sums, bytes and offsets of one outline more.
-use mathlib.Core.Path.{◌≡◌, refl, sym, ap, ap₂, ◌∙◌}
-use mathlib.Core.Bool.{Bool, true, false}
-use mathlib.Core.List.{List, [], ◌∷◌, ◌++◌, map, append_assoc, append-nil}
-use Prim.Native.Nat.{ℕ, zero, suc, ◌+◌, ◌*◌, ◌-◌, ◌/◌, ◌%◌, ◌≤◌, ◌<◌}
-use native.Mathlib.Omega.{arith}
-use lib.Dec.{leb, ltb}
-use borrow.Author.Tests.{le-ltb, lt-ltb, ltb-false, leb-true, leb-false}
-use native.Mathlib.Nat.{add_assoc, add-zero, zero-add, mul-zero, mul-suc}
-use native.Mathlib.Numerals.{add-one}
-use lib.ListN.{length, take, get_or, length-append, length-replicate}
-use lib.Seq.{take-suc, length-take-le}
+use Rattle.std.proofs.Common.{◌≡◌, refl, sym, ap, ap₂, ◌∙◌, Bool, true, false, List, [], ◌∷◌, ◌++◌, map, append_assoc, append-nil, ℕ, zero, suc, ◌+◌, ◌*◌, ◌-◌, ◌/◌, ◌%◌, ◌≤◌, ◌<◌, arith, leb, ltb, le-ltb, lt-ltb, ltb-false, leb-true, leb-false, add_assoc, add-zero, zero-add, mul-zero, mul-suc, add-one, length, take, get_or, length-append, take-suc, length-take-le}
+use lib.ListN.{length-replicate}
 use Rattle.model.specs.Res.{pick}
 use Rattle.model.specs.Bytes.{Bytes, put, over, pad2, sum, concat}
 use Rattle.model.specs.Glyf.{Width, short, long, entry_size, unit, be_entry, size, new_width, padded, new_glyf, new_loca, width}

@@ -1,10 +1,5 @@
 -- What the walk makes sure of is what writing asks for: the theorems about the closure, in this crate's terms; and what it added up is what is written.
-use mathlib.Core.Path.{◌≡◌, refl, sym, ap, ap₂, ◌∙◌, subst}
-use mathlib.Core.Bool.{true}
-use mathlib.Core.List.{List, [], ◌∷◌, map}
-use Prim.Native.Nat.{ℕ, ◌+◌, ◌*◌, ◌≤◌}
-use native.Mathlib.Omega.{arith}
-use lib.ListN.{length, get_or, take, length-take}
+use Rattle.std.proofs.Common.{◌≡◌, refl, sym, ap, ap₂, ◌∙◌, subst, true, List, [], ◌∷◌, map, ℕ, ◌+◌, ◌*◌, ◌≤◌, arith, length, get_or, take, length-take}
 use Rattle.model.specs.Res.{Res, refuse, ok, each, is_ok, value_of}
 use Rattle.model.specs.Bytes.{Bytes, pad2, sum, member, place}
 use Rattle.model.specs.Font.{Tables}

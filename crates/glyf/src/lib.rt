@@ -4,11 +4,11 @@
 // outline ends in the one is an entry of the other.
 #![tactic(auto)]
 
-ghost use Rattle.std.specs.Prelude.{◌≡◌, ◌+◌, ◌*◌, ◌-◌, ◌/◌, ◌≤◌, ◌<◌, [], length, take};
+ghost use Rattle.std.specs.Prelude.{◌≡◌, Some, ◌+◌, ◌*◌, ◌-◌, ◌/◌, ◌≤◌, ◌<◌, [], length, take};
 ghost use Rattle.model.specs.Res.{value_of};
-ghost use Rattle.model.specs.Bytes.{part, put, be16};
+ghost use Rattle.model.specs.Bytes.{put, be16};
 ghost use Rattle.model.specs.Glyf.{width, entry_size, unit, be_entry, padded};
-ghost use Rattle.outline.specs.Places.{shape_of};
+ghost use Rattle.outline.specs.Places.{Within, span_bytes, shape_of};
 ghost use Rattle.outline.specs.declared.Shape.TheVariants.{Composite};
 ghost use Rattle.glyf.specs.Pieces.{piece, pieces, new_from, bytes_of, most_offset, OutlineRoom, PieceRoom, TablesRoom, both_tables, Placed, zeros_behind, with_run, RunRoom, Moved};
 
@@ -28,15 +28,12 @@ fn new_id(scratch: &[u16], n: usize, id: usize) -> u16
     requires { n + id < length scratch.now }
     ensures { result ≡ new_from n scratch.now id }
 {
-    let v = scratch[n + id];
-    if v == 0 {
-        return 0;
-    }
-    v - 1
+    scratch[n + id].saturating_sub(1)
 }
 
 fn put_id(scratch: &[u16], n: usize, id: usize, out: &mut [u8], at: usize)
-    requires { (n + id < length scratch.now) × (at + 2 ≤ length out.old) }
+    requires numbered { n + id < length scratch.now }
+    requires room { at + 2 ≤ length out.old }
     ensures { out.new ≡ put out.old at (be16 (new_from n scratch.now id)) }
 {
     write::put_u16(out, at, new_id(scratch, n, id));
@@ -44,29 +41,22 @@ fn put_id(scratch: &[u16], n: usize, id: usize, out: &mut [u8], at: usize)
 
 // "Composites are copied with new ids": copied as far as they are kept, then each record's id is put over the old one.
 fn write_composite(b: &[u8], n: usize, scratch: &[u16], out: &mut [u8], at: usize) -> usize
-    requires { (shape_of b.now ≡ Composite) × OutlineRoom n b.now scratch.now out.old at }
+    requires composite { shape_of b.now ≡ Some Composite }
+    requires room { OutlineRoom n b.now scratch.now out.old at }
     ensures { Placed out.old out.new at result (bytes_of n (new_from n scratch.now) b.now) }
 {
     let kept = outline::kept_length(b, n);
     write::copy(&b[..kept], out, at);
     let mut p = 10;
-    loop {
-        let c = outline::component_at(b, p, n);
-        match c {
-            Component::More(id, next) => {
-                put_id(scratch, n, id, out, at + p + 2);
-                p = next;
-            }
-            Component::Last(last, _, _) => {
-                put_id(scratch, n, last, out, at + p + 2);
-                return at + kept;
-            }
-            // Never: the walk read it.
-            Component::Bad => {
-                return at;
-            }
+    while let Some(component) = outline::component_at(b, p, n) {
+        put_id(scratch, n, component.id(), out, at + p + 2);
+        match component {
+            Component::More { next, .. } => p = next,
+            Component::Last { .. } => return at + kept,
         }
     }
+    // Never: the walk read it.
+    at
 }
 
 // The run's bytes, to their place.
@@ -80,66 +70,67 @@ fn copy_run(glyf: &[u8], run: Run, out: &mut [u8])
 }
 
 // "Simple outlines are copied": one that stands behind the run makes it longer, another begins a new one.
-fn join(glyf: &[u8], start: usize, end: usize, run: Run, out: &mut [u8]) -> Run
-    requires { RunRoom glyf.now run out.old × (start ≤ end) × (end ≤ length glyf.now) × (run.end + (end - start) ≤ length out.old) }
-    ensures { Moved glyf.now run out.old result out.new (part glyf.now start (end - start)) }
+fn join(glyf: &[u8], span: Span, run: Run, out: &mut [u8]) -> Run
+    requires copied { RunRoom glyf.now run out.old }
+    requires there { Within glyf.now span }
+    requires room { run.end + (span.end - span.start) ≤ length out.old }
+    ensures { Moved glyf.now run out.old result out.new (span_bytes glyf.now span) }
 {
-    let size = end - start;
-    if start == run.from + run.size {
+    let size = span.end - span.start;
+    if span.start == run.from + run.size {
         return Run {
-            from: run.from,
             size: run.size + size,
             end: run.end + size,
+            ..run
         };
     }
     copy_run(glyf, run, out);
     Run {
-        from: start,
+        from: span.start,
         size,
         end: run.end + size,
     }
 }
 
-// The outline from `start` to `end`. A composite ends the run.
+// The outline that stands at `span`. A composite ends the run.
 fn write_outline(
     glyf: &[u8],
-    start: usize,
-    end: usize,
+    span: Span,
     n: usize,
     scratch: &[u16],
     run: Run,
     out: &mut [u8],
 ) -> Run
-    requires { RunRoom glyf.now run out.old × (start ≤ end) × (end ≤ length glyf.now) × OutlineRoom n (part glyf.now start (end - start)) scratch.now out.old run.end }
-    ensures { Moved glyf.now run out.old result out.new (bytes_of n (new_from n scratch.now) (part glyf.now start (end - start))) }
+    requires copied { RunRoom glyf.now run out.old }
+    requires there { Within glyf.now span }
+    requires room { OutlineRoom n (span_bytes glyf.now span) scratch.now out.old run.end }
+    ensures { Moved glyf.now run out.old result out.new (bytes_of n (new_from n scratch.now) (span_bytes glyf.now span)) }
 {
-    let s = outline::shape_of(&glyf[start..end]);
-    match s {
-        Shape::Simple => join(glyf, start, end, run, out),
-        Shape::Composite => {
+    let b = &glyf[span.start..span.end];
+    match outline::shape_of(b) {
+        Some(Shape::Empty) => run,
+        Some(Shape::Simple) => join(glyf, span, run, out),
+        Some(Shape::Composite) => {
             copy_run(glyf, run, out);
-            let behind = write_composite(&glyf[start..end], n, scratch, out, run.end);
+            let behind = write_composite(b, n, scratch, out, run.end);
             Run {
-                from: end,
+                from: span.end,
                 size: 0,
                 end: behind,
             }
         }
-        Shape::Empty => run,
         // Never: the walk read it.
-        Shape::Bad => run,
+        None => run,
     }
 }
 
 // Behind an outline of this size, the zero that a short loca's even offsets need. It ends the run.
 fn pad(glyf: &[u8], size: usize, wide: bool, run: Run, out: &mut [u8]) -> Run
-    requires { RunRoom glyf.now run out.old × (run.end + length (zeros_behind (width wide) size) ≤ length out.old) }
+    requires copied { RunRoom glyf.now run out.old }
+    requires room { run.end + length (zeros_behind (width wide) size) ≤ length out.old }
     ensures { Moved glyf.now run out.old result out.new (zeros_behind (width wide) size) }
 {
-    if wide {
-        return run;
-    }
-    if size % 2 == 0 {
+    if wide || size % 2 == 0 {
         return run;
     }
     copy_run(glyf, run, out);
@@ -163,23 +154,23 @@ fn write_glyph(
     run: Run,
     out: &mut [u8],
 ) -> Run
-    requires { RunRoom glyf.now run out.old × PieceRoom (width long) (width wide) n loca.now glyf.now scratch.now g out.old run.end }
+    requires copied { RunRoom glyf.now run out.old }
+    requires room { PieceRoom (width long) (width wide) n loca.now glyf.now scratch.now g out.old run.end }
     ensures { Moved glyf.now run out.old result out.new (padded (width wide) (value_of [] (piece (width long) n loca.now glyf.now (new_from n scratch.now) g))) }
 {
-    let s = outline::locate(loca, glyf, long, g);
-    match s {
-        Span::At(start, end) => {
-            let next = write_outline(glyf, start, end, n, scratch, run, out);
-            pad(glyf, next.end - run.end, wide, next, out)
-        }
+    let Some(span) = outline::locate(loca, glyf, long, g) else {
         // Never: the walk read it.
-        Span::Bad => run,
-    }
+        return run;
+    };
+    let next = write_outline(glyf, span, n, scratch, run, out);
+    pad(glyf, next.end - run.end, wide, next, out)
 }
 
-// "offsets are halved" in a short loca: entry number i.
+// "offsets are halved" in a short loca: entry number i. The offset fits (`fits`), so the casts lose nothing, and a TryFrom would
+// only add a refusal that never comes.
 fn put_entry(out: &mut [u8], long: bool, i: usize, offset: usize)
-    requires { (entry_size (width long) * (i + 1) ≤ length out.old) × (offset ≤ most_offset (width long)) }
+    requires room { entry_size (width long) * (i + 1) ≤ length out.old }
+    requires fits { offset ≤ most_offset (width long) }
     ensures { out.new ≡ put out.old (entry_size (width long) * i) (be_entry (width long) (offset / unit (width long))) }
 {
     if long {
@@ -210,8 +201,7 @@ pub fn write(
         size: 0,
         end: 0,
     };
-    let mut i = 0;
-    while i < kept {
+    for (i, g) in scratch[..kept].iter().enumerate() {
         put_entry(&mut out[distance..], wide, i, run.end);
         run = write_glyph(
             loca,
@@ -219,12 +209,11 @@ pub fn write(
             long,
             n,
             scratch,
-            scratch[i] as usize,
+            usize::from(*g),
             wide,
             run,
             out,
         );
-        i += 1;
     }
     put_entry(&mut out[distance..], wide, kept, run.end);
     copy_run(glyf, run, out);

@@ -19,15 +19,8 @@ pub fn is_long(head: &[u8]) -> bool
 pub fn glyph_count(loca: &[u8], long: bool) -> usize
     ensures { result ≡ glyphs (width long) loca.now }
 {
-    let entries = if long { loca.len() / 4 } else { loca.len() / 2 };
-    if entries == 0 {
-        return 0;
-    }
-    if entries - 1 < 65536 {
-        entries - 1
-    } else {
-        65536
-    }
+    let entries = loca.len() / if long { 4 } else { 2 };
+    entries.saturating_sub(1).min(65536)
 }
 
 // At the start of out; as long as the old table.
@@ -36,6 +29,6 @@ pub fn write(head: &[u8], long: bool, out: &mut [u8])
     ensures { out.new ≡ over (new_head (width long) head.now) out.old }
 {
     write::copy(head, out, 0);
-    write::put_u16(out, 50, if long { 1 } else { 0 });
+    write::put_u16(out, 50, u16::from(long));
     write::put_u32(out, 8, 0);
 }

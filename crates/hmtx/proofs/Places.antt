@@ -9,13 +9,13 @@ use native.Mathlib.Nat.{le_of_suc-le-suc, not-suc-le-zero}
 use native.Mathlib.Numerals.{add-one}
 use borrow.Author.Tests.{lt-ltb, le-ltb, leb-true, le-leb, lt-leb}
 use lib.Dec.{leb}
-use lib.ListN.{length, take, drop, get_or, length-take, length-drop}
-use lib.Seq.{get_or-take, get_or-drop, drop-cons}
+use lib.ListN.{length, drop, get_or}
+use lib.Seq.{drop-cons}
 use Rattle.model.specs.Res.{refuse, ok, pick, both, need, each, ◌>>=◌, ◌>>◌}
 use Rattle.model.specs.Bytes.{Bytes, all}
 use Rattle.model.specs.Metrics.{Metric, metric}
 use Rattle.model.proofs.Res.{both_true}
-use Rattle.hmtx.specs.Places.{advance_place, bearing_place, inside, metric_at, metrics_at, Room}
+use Rattle.hmtx.specs.Places.{advance_place, bearing_place, inside, metric_at, metrics_at}
 
 -- the advance lies before the bearing, or is the last long one
 pub advance_in : (c g n : ℕ) → 0 < c → 4 * (c - 1) + 2 ≤ n → bearing_place c g + 2 ≤ n → advance_place c g + 2 ≤ n
@@ -72,24 +72,3 @@ inside-turn h c ids i lt le = rw (add-one, drop-cons ids i 0, le-leb (bearing_pl
 pub inside-stop : (h : Bytes) (c : ℕ) (ids : List ℕ) (i : ℕ) → i < length ids → length h < bearing_place c (get_or ids i 0) + 2 → all (inside h c) (drop i ids) ≡ false
 unfolding inside
 inside-stop h c ids i lt gt = rw (drop-cons ids i 0, lt-leb (bearing_place c (get_or ids i 0) + 2) (length h) gt)
-
--- room for a part of the roster
-pub room_take : (h : Bytes) (c : ℕ) (ids : List ℕ) (k : ℕ) → Room h c ids → Room h c (take k ids)
-room_take h c ids k r =
-    record {
-      some = r.some;
-      small = r.small;
-      long = r.long;
-      metrics = λ i lt. (let e = rw length-take at lt in let b : i < k = omega arith in rw get_or-take (r.metrics i (omega arith)));
-      few = simp length-take (omega arith);
-    }
-
-pub room_drop : (h : Bytes) (c : ℕ) (ids : List ℕ) (k : ℕ) → Room h c ids → Room h c (drop k ids)
-room_drop h c ids k r =
-    record {
-      some = r.some;
-      small = r.small;
-      long = r.long;
-      metrics = λ i lt. (let e = rw length-drop at lt in rw get_or-drop (r.metrics (k + i) (omega arith)));
-      few = simp length-drop (omega arith);
-    }

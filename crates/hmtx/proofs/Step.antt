@@ -14,7 +14,7 @@ use Rattle.model.proofs.Res.{true_false, ok-refuse, ok_inj, need_inv, each_inv}
 use Rattle.hmtx.specs.Places.{inside, metrics_at, Room}
 use Rattle.hmtx.specs.Measures.{sizes, counted, metrics_of}
 use Rattle.hmtx.proofs.Places.{each-metric, inside-at}
-use Rattle.hmtx.proofs.Count.{new_count-some, new_count-most}
+use Rattle.hmtx.proofs.Count.{new_count-most}
 use Rattle.hmtx.proofs.Written.{length-metrics_at, length-new_hmtx}
 
 module _ (hhea h : Bytes) (ids : List ℕ) (c : ℕ) (is : c ≡ old_count hhea) where
@@ -30,33 +30,33 @@ module _ (hhea h : Bytes) (ids : List ℕ) (c : ℕ) (is : c ≡ old_count hhea)
   unfolding metrics
   metrics-each p l = rw (← is, lt-ltb 0 c p, le-leb (4 * (c - 1) + 2) (length h) l)
 
--- what a count other than 0 says
+-- what a count says
 pub record Counted (h : Bytes) (c : ℕ) (ids : List ℕ) (k : ℕ) : Type 0 where
   pub most : k ≤ length ids
   pub sized : map_res sizes (each (metric h c) ids) ≡ ok (k, 2 * length ids + 2 * k)
 
 module _ (h : Bytes) (c : ℕ) (ids : List ℕ) where
-  pub counted-outside : all (inside h c) ids ≡ false → counted h c ids ≡ 0
+  pub counted-outside : all (inside h c) ids ≡ false → counted h c ids ≡ refuse 3
   counted-outside e = rw (each-metric h c ids, e)
 
-  pub counted-inside : all (inside h c) ids ≡ true → counted h c ids ≡ new_count (metrics_at h c ids)
+  pub counted-inside : all (inside h c) ids ≡ true → counted h c ids ≡ ok (new_count (metrics_at h c ids))
   counted-inside e = rw (each-metric h c ids, e)
 
-  pub counted_none : counted h c ids ≡ 0 → each (metric h c) ids ≡ refuse 3
-  counted_none e = go (all (inside h c) ids) (each-metric h c ids)
+  pub counted-refused : (k : ℕ) → refuse k ≡ counted h c ids → refuse k ≡ map_res sizes (each (metric h c) ids)
+  counted-refused k e = go (each (metric h c) ids) e
     where
-      go : (t : Bool) → each (metric h c) ids ≡ pick t (ok (metrics_at h c ids)) (refuse 3) → each (metric h c) ids ≡ refuse 3
-      go false q = q
-      go true q = let z : new_count (metrics_at h c ids) ≡ 0 = rw q at e in absurd (omega (arith, new_count-some (metrics_at h c ids)))
+      go : (r : Res (List Metric)) → refuse k ≡ map_res new_count r → refuse k ≡ map_res sizes r
+      go (refuse n) q = cc
+      go (ok ms) q = cc
 
-  pub counted-some : (k : ℕ) → k ≡ counted h c ids → (k ≡ 0 → ⊥) → 0 < length ids → Counted h c ids k
-  counted-some k ek n some = go (all (inside h c) ids) (each-metric h c ids)
+  pub counted-some : (k : ℕ) → ok k ≡ counted h c ids → 0 < length ids → Counted h c ids k
+  counted-some k ek some = go (all (inside h c) ids) (each-metric h c ids)
     where
       go : (t : Bool) → each (metric h c) ids ≡ pick t (ok (metrics_at h c ids)) (refuse 3) → Counted h c ids k
-      go false q = absurd (n (rw q at ek))
+      go false q = let z : ok k ≡ refuse 3 = rw q at ek in cc
       go true q =
           let ms : List Metric = metrics_at h c ids in
-          let e : k ≡ new_count ms = rw q at ek in
+          let e : k ≡ new_count ms = ok_inj (rw q at ek) in
           let l : length ms ≡ length ids = length-metrics_at h c ids in
           let le : new_count ms ≤ length ms = new_count-most ms (omega arith) in
           let s : length (new_hmtx (new_count ms) ms) ≡ 2 * length ids + 2 * new_count ms = length-new_hmtx (new_count ms) ms le ∙ ap (λ (n : ℕ). 2 * n + 2 * new_count ms) l in

@@ -8,16 +8,20 @@ ghost use Rattle.model.specs.Res.{is_ok, map_res};
 ghost use Rattle.model.specs.Bytes.{over};
 ghost use Rattle.model.specs.Metrics.{metrics, new_count, pairs, bearings, new_hmtx, new_hhea};
 ghost use Rattle.hmtx.specs.Places.{advance_place, bearing_place, metric_at, metrics_at, Room};
+ghost use Rattle.answer.specs.Answers.{res_of};
 ghost use Rattle.hmtx.specs.Measures.{measured_of, sizes, counted, metrics_of};
 
-// Step 6's answer: a refusal, or the new count and the new hmtx's length.
+use answer::Refusal;
+
+// What step 6 finds: the new count, and the new hmtx's length.
 #[derive(Clone, Copy)]
-pub enum Measured {
-    No(u32),
-    Sized { count: usize, size: usize },
+pub struct Measured {
+    pub count: usize,
+    pub size: usize,
 }
 
 // "An id below the old count reads advance and bearing at 4 times id"; another has the last long advance.
+#[tactic(auto, unfolding(crate::specs::Places::advance_place))]
 fn advance_place(c: usize, id: usize) -> usize
     requires { (0 < c) × (c ≤ 65535) × (id ≤ 65535) }
     ensures { result ≡ advance_place c id }
@@ -26,6 +30,7 @@ fn advance_place(c: usize, id: usize) -> usize
 }
 
 // "another reads its bearing at 4 times count + 2 times (id minus count)".
+#[tactic(auto, unfolding(crate::specs::Places::bearing_place))]
 fn bearing_place(c: usize, id: usize) -> usize
     requires { (0 < c) × (c ≤ 65535) × (id ≤ 65535) }
     ensures { result ≡ bearing_place c id }
@@ -37,68 +42,44 @@ fn bearing_place(c: usize, id: usize) -> usize
     }
 }
 
-// The new count, or 0 if a kept metric lies outside hmtx: one pass tests and counts. A new count is at least 1.
-fn count_inside(hmtx: &[u8], c: usize, roster: &[u16]) -> usize
+// The new count, or the refusal if a kept metric lies outside hmtx: one pass tests and counts.
+fn count_inside(hmtx: &[u8], c: usize, roster: &[u16]) -> Result<usize, Refusal>
     requires { (0 < c) × (c ≤ 65535) × (4 * (c - 1) + 2 ≤ length hmtx.now) }
-    ensures { result ≡ counted hmtx.now c roster.now }
+    ensures { res_of result ≡ counted hmtx.now c roster.now }
 {
     let mut count = 1;
     let mut last = 0;
-    let mut i = 0;
-    while i < roster.len() {
-        let id = roster[i] as usize;
-        let end = bearing_place(c, id) + 2;
-        if hmtx.len() < end {
-            return 0;
+    for (i, id) in roster.iter().enumerate() {
+        let id = usize::from(*id);
+        if hmtx.len() < bearing_place(c, id) + 2 {
+            return Err(Refusal::MalformedFont);
         }
         let advance = read::u16_at(hmtx, advance_place(c, id));
         if advance != last {
             count = i + 1;
             last = advance;
         }
-        i += 1;
     }
-    count
+    Ok(count)
 }
 
 // Step 6.
-pub fn measure(hhea: &[u8], hmtx: &[u8], roster: &[u16]) -> Measured
+pub fn measure(hhea: &[u8], hmtx: &[u8], roster: &[u16]) -> Result<Measured, Refusal>
     requires { (36 ≤ length hhea.now) × (0 < length roster.now) × (length roster.now ≤ 65535) }
     ensures { measured_of result ≡ map_res sizes (metrics hhea.now hmtx.now roster.now) }
 {
-    let c = read::u16_at(hhea, 34) as usize;
+    let c = usize::from(read::u16_at(hhea, 34));
     if c == 0 {
-        return Measured::No(5);
+        return Err(Refusal::Overflow);
     }
     if hmtx.len() < 4 * (c - 1) + 2 {
-        return Measured::No(3);
+        return Err(Refusal::MalformedFont);
     }
-    let count = count_inside(hmtx, c, roster);
-    if count == 0 {
-        return Measured::No(3);
-    }
-    Measured::Sized {
-        count: count,
+    let count = count_inside(hmtx, c, roster)?;
+    Ok(Measured {
+        count,
         size: 2 * roster.len() + 2 * count,
-    }
-}
-
-// The advance of the glyph at place i of the roster.
-fn advance_at(hmtx: &[u8], c: usize, roster: &[u16], i: usize) -> u16
-    requires room { Room hmtx.now c roster.now }
-    requires i_in_bounds { i < length roster.now }
-    ensures { result ≡ (metric_at hmtx.now c (get_or roster.now i 0)).0 }
-{
-    read::u16_at(hmtx, advance_place(c, roster[i] as usize))
-}
-
-// Its bearing.
-fn bearing_at(hmtx: &[u8], c: usize, roster: &[u16], i: usize) -> u16
-    requires room { Room hmtx.now c roster.now }
-    requires i_in_bounds { i < length roster.now }
-    ensures { result ≡ (metric_at hmtx.now c (get_or roster.now i 0)).1 }
-{
-    read::u16_at(hmtx, bearing_place(c, roster[i] as usize))
+    })
 }
 
 // The pairs of advance and bearing of these glyphs.
@@ -107,11 +88,10 @@ fn write_pairs(hmtx: &[u8], c: usize, roster: &[u16], out: &mut [u8])
     requires roster_in_bounds { 4 * length roster.now ≤ length out.old }
     ensures { out.new ≡ over (pairs (metrics_at hmtx.now c roster.now)) out.old }
 {
-    let mut i = 0;
-    while i < roster.len() {
-        write::put_u16(out, 4 * i, advance_at(hmtx, c, roster, i));
-        write::put_u16(out, 4 * i + 2, bearing_at(hmtx, c, roster, i));
-        i += 1;
+    for (i, id) in roster.iter().enumerate() {
+        let id = usize::from(*id);
+        write::put_u16(out, 4 * i, read::u16_at(hmtx, advance_place(c, id)));
+        write::put_u16(out, 4 * i + 2, read::u16_at(hmtx, bearing_place(c, id)));
     }
 }
 
@@ -121,10 +101,12 @@ fn write_bearings(hmtx: &[u8], c: usize, roster: &[u16], out: &mut [u8])
     requires roster_in_bounds { 2 * length roster.now ≤ length out.old }
     ensures { out.new ≡ over (bearings (metrics_at hmtx.now c roster.now)) out.old }
 {
-    let mut i = 0;
-    while i < roster.len() {
-        write::put_u16(out, 2 * i, bearing_at(hmtx, c, roster, i));
-        i += 1;
+    for (i, id) in roster.iter().enumerate() {
+        write::put_u16(
+            out,
+            2 * i,
+            read::u16_at(hmtx, bearing_place(c, usize::from(*id))),
+        );
     }
 }
 
@@ -135,8 +117,7 @@ fn write_metrics(hmtx: &[u8], c: usize, roster: &[u16], count: usize, out: &mut 
     ensures { out.new ≡ over (new_hmtx count (metrics_at hmtx.now c roster.now)) out.old }
 {
     write_pairs(hmtx, c, &roster[..count], out);
-    let at = 4 * count;
-    write_bearings(hmtx, c, &roster[count..], &mut out[at..]);
+    write_bearings(hmtx, c, &roster[count..], &mut out[4 * count..]);
 }
 
 // hmtx, at the start of out; the count and the room are those that `measure` found.
@@ -147,7 +128,13 @@ pub fn write_hmtx(hhea: &[u8], hmtx: &[u8], roster: &[u16], count: usize, out: &
     requires roster_in_bounds { length (new_hmtx count (metrics_of hhea.now hmtx.now roster.now)) ≤ length out.old }
     ensures { out.new ≡ over (new_hmtx count (metrics_of hhea.now hmtx.now roster.now)) out.old }
 {
-    write_metrics(hmtx, read::u16_at(hhea, 34) as usize, roster, count, out);
+    write_metrics(
+        hmtx,
+        usize::from(read::u16_at(hhea, 34)),
+        roster,
+        count,
+        out,
+    );
 }
 
 // hhea, at the start of out: "all but its last two bytes, then the new count".

@@ -10,8 +10,9 @@ use Rattle.model.specs.Res.{Res, refuse, ok, pick, ◌>>=◌}
 use Rattle.model.specs.Bytes.{Bytes, over}
 use Rattle.model.specs.Font.{Tables}
 use Rattle.model.specs.Cut.{count}
-use Rattle.answer.specs.declared.Answer.{Answer as Answered}
-use Rattle.answer.specs.declared.Answer.TheVariants.{Font}
+use Rattle.std.specs.Prelude.{Result, Ok}
+use Rattle.answer.specs.declared.CutError.{CutError}
+use Rattle.answer.specs.declared.Font.{Font}
 use Rattle.answer.specs.Answers.{answer_of}
 use Rattle.model.specs.Call.{Input, Answer, Made, Promise, ready, made, delivered, last, answer, out_after, out_from, scratch_after, scratch_from, places_from}
 
@@ -46,8 +47,8 @@ file-within : (x : Input) (r : Answer) (o s : List ℕ) → Promise x r o s → 
 unfolding answer out_after
 file-within x r o s p h = rw (p.answers, p.writes) (file-made x.out (ready x >>= λ t. made t x.ids) (rw p.answers at h))
 
-pub font-kept : (x : Input) (a : Answered) (k l : ℕ) (o s : List ℕ) → a ≡ Font k l → Promise x (answer_of a) o s → k ≤ length s
-font-kept x a k l o s e p = kept-within x (answer_of (Font k l)) o s (subst (λ b. Promise x (answer_of b) o s) e p)
+pub font-kept : (x : Input) (a : Result Font CutError) (f : Font) (o s : List ℕ) → a ≡ Ok f → Promise x (answer_of a) o s → f.kept ≤ length s
+font-kept x a f o s e p = kept-within x (answer_of (Ok f)) o s (subst (λ b. Promise x (answer_of b) o s) e p)
 
-pub font-file : (x : Input) (a : Answered) (k l : ℕ) (o s : List ℕ) → a ≡ Font k l → Promise x (answer_of a) o s → l ≤ length o
-font-file x a k l o s e p = file-within x (answer_of (Font k l)) o s (subst (λ b. Promise x (answer_of b) o s) e p) refl
+pub font-file : (x : Input) (a : Result Font CutError) (f : Font) (o s : List ℕ) → a ≡ Ok f → Promise x (answer_of a) o s → f.length ≤ length o
+font-file x a f o s e p = file-within x (answer_of (Ok f)) o s (subst (λ b. Promise x (answer_of b) o s) e p) refl

@@ -1,12 +1,11 @@
 -- The list of ids: "at most 1,024 decimal ids, one a line (anything else prints `bad list`)", 1,024 being the places lent (`most`);
 -- and the machine that reads it byte by byte.
-use Rattle.std.specs.Prelude.{Bool, true, false, List, [], ◌∷◌, ◌++◌, map, ℕ, ◌+◌, ◌*◌, ◌-◌, leb, ltb, eqb, length, take}
+use Rattle.std.specs.Prelude.{Bool, true, false, List, [], ◌∷◌, ◌++◌, map, ℕ, ◌+◌, ◌*◌, ◌-◌, leb, ltb, eqb, length, take, unwrap_or, is_some, Result, Ok, Err}
 use Rattle.std.proofs.Math.Option.{Option, none, some}
 use Rattle.model.specs.Res.{pick, both}
 use Rattle.model.specs.Bytes.{Bytes, all}
 use Rattle.lines.specs.declared.Reading.{Reading}
-use Rattle.lines.specs.declared.Listed.{Listed}
-use Rattle.lines.specs.declared.Listed.TheVariants as case
+use Rattle.lines.specs.declared.BadList.{BadList}
 
 -- has a list an element
 abbrev pub some? : Bytes → Bool
@@ -75,13 +74,13 @@ given t = pick t.good (some t.ids) none
 
 -- what the code's values mean
 abbrev pub state_of : Reading → List ℕ → State
-state_of r ids = record { good = r.good; ids = take r.count ids; inside = r.inside; value = r.value }
+state_of r ids = record { good = r.good; ids = take r.count ids; inside = is_some r.line; value = unwrap_or r.line 0 }
 
-abbrev pub list_of : Listed → List ℕ → Option (List ℕ)
-list_of (case.Ids k) ids = some (take k ids)
-list_of case.Bad ids = none
+abbrev pub list_of : Result ℕ BadList → List ℕ → Option (List ℕ)
+list_of (Ok k) ids = some (take k ids)
+list_of (Err e) ids = none
 
 -- how many places of the ids an answer speaks of
-abbrev pub room : Listed → ℕ
-room (case.Ids k) = k
-room case.Bad = 0
+abbrev pub room : Result ℕ BadList → ℕ
+room (Ok k) = k
+room (Err e) = 0

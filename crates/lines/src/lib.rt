@@ -4,143 +4,117 @@
 
 mod print;
 
-ghost use Rattle.std.specs.Prelude.{◌≡◌, List, ℕ, ◌≤◌, min, length};
-ghost use Rattle.lines.specs.Ids.{begun, spoilt, closed, grown, stepped, run, last, given, state_of, list_of, room};
+ghost use Rattle.std.specs.Prelude.{◌≡◌, true, List, ℕ, ◌≤◌, length};
+ghost use Rattle.lines.specs.Ids.{begun, closed, grown, stepped, run, last, given, state_of, list_of, room};
 
 pub use print::{kept, refused};
+use std::error::Error;
+use std::fmt;
 
-// What was read so far: whether all of it is good, how many ids are in their places, whether a line has begun and its number.
+// What was read so far: whether all of it is good, how many ids are in their places, and the number of a line that has begun.
 #[derive(Drop)]
 pub struct Reading {
     good: bool,
     count: usize,
-    inside: bool,
-    value: u16,
+    line: Option<u16>,
 }
 
-// So many ids, or a bad list.
-#[derive(Drop)]
-pub enum Listed {
-    Ids(usize),
-    Bad,
-}
+// The text is no list of ids, or of more than there are places for.
+#[derive(Clone, Copy, Debug, PartialEq, Eq)]
+pub struct BadList;
 
-pub fn begin() -> Reading
-    ensures { (ids : List ℕ) → state_of result ids ≡ begun }
-{
-    Reading {
-        good: true,
-        count: 0,
-        inside: false,
-        value: 0,
+impl fmt::Display for BadList {
+    fn fmt<W: fmt::Write>(&self, f: &mut fmt::Formatter<W>) -> fmt::Result {
+        write!(f, "bad list")
     }
 }
 
-// Reads a piece of the text on. Ids go to their places once their line is closed.
-pub fn feed(s: Reading, text: &[u8], ids: &mut [u16]) -> Reading
-    ensures { state_of result ids.new ≡ run (length ids.old) (state_of s ids.old) text.now }
-{
-    let mut t = s;
-    let mut i = 0;
-    while i < text.len() {
-        t = step(t, text[i], ids);
-        i += 1;
-    }
-    t
-}
+impl Error for BadList {}
 
-// The end of the text: a last line without a newline counts.
-pub fn finish(s: Reading, ids: &mut [u16]) -> Listed
-    ensures { (list_of result ids.new ≡ given (last (length ids.old) (state_of s ids.old))) × (room result ≤ length ids.new) }
-{
-    if !s.good {
-        return Listed::Bad;
+impl Reading {
+    pub fn begin() -> Reading
+        ensures { (ids : List ℕ) → state_of result ids ≡ begun }
+    {
+        Reading {
+            good: true,
+            count: 0,
+            line: None,
+        }
     }
-    if !s.inside {
-        return Listed::Ids(least(s.count, ids.len()));
-    }
-    let t = close(s, ids);
-    if t.good {
-        return Listed::Ids(least(t.count, ids.len()));
-    }
-    Listed::Bad
-}
 
-// A count never passes the places; this says so without a precondition on the reading.
-fn least(a: usize, b: usize) -> usize
-    ensures { result ≡ min a b }
-{
-    if a < b { a } else { b }
-}
+    // Reads a piece of the text on. Ids go to their places once their line is closed.
+    pub fn feed(&mut self, text: &[u8], ids: &mut [u16])
+        ensures { state_of self.new ids.new ≡ run (length ids.old) (state_of self.old ids.old) text.now }
+    {
+        for byte in text {
+            self.step(*byte, ids);
+        }
+    }
 
-// One byte. After a bad one nothing changes any more.
-fn step(s: Reading, b: u8, ids: &mut [u16]) -> Reading
-    ensures { state_of result ids.new ≡ stepped (length ids.old) (state_of s ids.old) b }
-{
-    if !s.good {
-        return s;
+    // The end of the text: a last line without a newline counts. Answers how many ids there are.
+    pub fn finish(mut self, ids: &mut [u16]) -> Result<usize, BadList>
+        ensures { (list_of result ids.new ≡ given (last (length ids.old) (state_of self ids.old))) × (room result ≤ length ids.new) }
+    {
+        self.end(ids);
+        if self.good {
+            // A count never passes the places; `min` says so without a precondition on the reading.
+            Ok(self.count.min(ids.len()))
+        } else {
+            Err(BadList)
+        }
     }
-    if b == 10 {
-        return close(s, ids);
-    }
-    if b < 48 {
-        return spoil(s);
-    }
-    if 57 < b {
-        return spoil(s);
-    }
-    grow(s, b - 48)
-}
 
-fn spoil(s: Reading) -> Reading
-    ensures { (ids : List ℕ) → state_of result ids ≡ spoilt (state_of s ids) }
-{
-    Reading {
-        good: false,
-        count: s.count,
-        inside: s.inside,
-        value: s.value,
+    // A line that has begun ends with the text.
+    #[tactic(auto, unfolding(crate::specs::Ids::last))]
+    fn end(&mut self, ids: &mut [u16])
+        ensures { state_of self.new ids.new ≡ last (length ids.old) (state_of self.old ids.old) }
+    {
+        if self.good && self.line.is_some() {
+            self.close(ids);
+        }
     }
-}
 
-// A digit more; "an id" has 16 bits.
-fn grow(s: Reading, d: u8) -> Reading
-    ensures { (ids : List ℕ) → state_of result ids ≡ grown (state_of s ids) d }
-{
-    let v = 10 * wide(s.value) + (d as u32);
-    if 65535 < v {
-        return spoil(s);
+    // One byte. After a bad one nothing changes any more.
+    #[tactic(auto, unfolding(crate::specs::Ids::stepped))]
+    fn step(&mut self, byte: u8, ids: &mut [u16])
+        ensures { state_of self.new ids.new ≡ stepped (length ids.old) (state_of self.old ids.old) byte }
+    {
+        if !self.good {
+            return;
+        }
+        match byte {
+            b'\n' => self.close(ids),
+            b'0'..=b'9' => self.grow(byte - b'0'),
+            _ => self.good = false,
+        }
     }
-    Reading {
-        good: true,
-        count: s.count,
-        inside: true,
-        value: v as u16,
-    }
-}
 
-fn wide(x: u16) -> u32
-    ensures { (result ≡ x) × (result ≤ 65535) }
-{
-    x as u32
-}
+    // A digit more; "an id" has 16 bits.
+    #[tactic(auto, unfolding(crate::specs::Ids::grown))]
+    fn grow(&mut self, digit: u8)
+        requires { self.old.good ≡ true }
+        ensures { (ids : List ℕ) → state_of self.new ids ≡ grown (state_of self.old ids) digit }
+    {
+        let value = 10 * u32::from(self.line.unwrap_or(0)) + u32::from(digit);
+        match u16::try_from(value) {
+            Ok(value) => self.line = Some(value),
+            Err(_) => self.good = false,
+        }
+    }
 
-// A line ends: an empty one is bad, and so is one for whose id there is no place.
-fn close(s: Reading, ids: &mut [u16]) -> Reading
-    ensures { state_of result ids.new ≡ closed (length ids.old) (state_of s ids.old) }
-{
-    if !s.inside {
-        return spoil(s);
-    }
-    let at = s.count;
-    if ids.len() <= at {
-        return spoil(s);
-    }
-    ids[at] = s.value;
-    Reading {
-        good: true,
-        count: at + 1,
-        inside: false,
-        value: 0,
+    // A line ends: an empty one is bad, and so is one for whose id there is no place.
+    #[tactic(auto, unfolding(crate::specs::Ids::closed))]
+    fn close(&mut self, ids: &mut [u16])
+        requires { self.old.good ≡ true }
+        ensures { state_of self.new ids.new ≡ closed (length ids.old) (state_of self.old ids.old) }
+    {
+        match self.line {
+            Some(value) if self.count < ids.len() => {
+                ids[self.count] = value;
+                self.count += 1;
+                self.line = None;
+            }
+            _ => self.good = false,
+        }
     }
 }

@@ -1,25 +1,14 @@
--- Buckets and links: sums and products stay in 64 bits, a first use more is the last of its bucket, and a walk along the links passes every first use of the bucket.
-use Rattle.std.proofs.Common.{◌≡◌, ℕ, suc, ◌+◌, ◌*◌, ◌/◌, ◌%◌, ◌^◌, ◌<◌, ◌≤◌, eqb, ltb, List, length, get_or, set, sym, ap, ◌∙◌, mul-le-mul_right, arith, length-set, get_or-set_other, get_or-set_same, ltb-false, ltb-true, eqb-true}
+-- Buckets and links: a first use more is the last of its bucket, and a walk along the links passes every first use of the bucket.
+use Rattle.std.proofs.Common.{◌≡◌, ℕ, ◌+◌, ◌*◌, ◌/◌, ◌<◌, ◌≤◌, eqb, ltb, List, length, get_or, set, sym, ap, ◌∙◌, mul-le-mul_right, arith, length-set, get_or-set_other, get_or-set_same, ltb-false, ltb-true, eqb-true}
 use borrow.Author.Tests.{eqb-false}
 use Rattle.model.specs.Bytes.{Bytes}
-use Rattle.name.specs.Hashed.{eight_at, mixed_of, words_of, bucket_of, Latest}
-use Rattle.name.specs.Rows.{string_at, key_at, Apart, Linked, Walkable, Walked}
-use Rattle.name.specs.declared.Link.TheVariants.{Same, New, Lost}
+use Rattle.name.specs.Hashed.{bucket_of, Latest}
+use Rattle.name.specs.Rows.{string_at, key_at, Apart, Linked, Walkable}
 use Rattle.name.proofs.Rows.{by}
 
--- products of two halves, and a share of the buckets
-pub halves_fit : (x y : ℕ) → x < 4294967296 → y < 4294967296 → x * y < 18446744073709551616
-halves_fit x y h g = omega (arith, mul-le-mul_right {m = x} {n = 4294967295} y (omega arith))
-
+-- a share of the buckets
 pub share-below : (x n : ℕ) → x < 4294967296 → 0 < n → x * n / 4294967296 < n
 share-below x n h g = omega (arith, mul-le-mul_right {m = x} {n = 4294967295} n (omega arith))
-
-pub words-next : (s : Bytes) (k : ℕ) → k % 8 ≡ 0 → (words_of s (k / 8) + mixed_of (eight_at s k) k) % 2 ^ 64 ≡ words_of s ((k + 8) / 8)
-unfolding words_of
-words-next s k h =
-    let e : (k + 8) / 8 ≡ suc (k / 8) = omega arith in
-    let f : 8 * (k / 8) ≡ k = omega arith in
-    rw (e, f)
 
 -- a number more, whose key is h: it is the last with that key, and others keep theirs
 module _ (key more : ℕ → ℕ) (used h : ℕ) (old : (j : ℕ) → j < used → more j ≡ key j) (new : more used ≡ h) where
@@ -119,7 +108,7 @@ pub record Walking (b : Bytes) (firsts links heads : List ℕ) (bucket i next : 
   pub keyed : (n : ℕ) → next ≡ n + 1 → key_at b firsts (length heads) n ≡ bucket
   pub passed : (used : ℕ) → Linked b firsts links heads used → (j : ℕ) → next ≤ j → j < used → string_at b (get_or firsts j 0) ≡ string_at b i → ⊥
 
-module _ (b : Bytes) (firsts links heads : List ℕ) (bucket i : ℕ) (w : Walkable b firsts links heads bucket i) where
+module _ {b : Bytes} {firsts links heads : List ℕ} {bucket i : ℕ} (w : Walkable b firsts links heads bucket i) where
   key-same : (j : ℕ) → string_at b (get_or firsts j 0) ≡ string_at b i → key_at b firsts (length heads) j ≡ bucket
   unfolding key_at
   key-same j e = ap (λ (s : Bytes). bucket_of s (length heads)) e ∙ sym w.its
@@ -157,24 +146,3 @@ module _ (b : Bytes) (firsts links heads : List ℕ) (bucket i : ℕ) (w : Walka
               let p = ltb-false j n f in
               a.passed used l j (omega arith) t q));
         }
-
-    pub walked_same : string_at b (get_or firsts n 0) ≡ string_at b i → Walked b firsts links heads bucket i (Same n)
-    walked_same h =
-        record {
-          same = λ j f. (let q : n ≡ j = cc in (omega (arith, a.within), rw q at h));
-          new = λ f. (let z : ◌≡◌ {A = ℕ} 0 1 = cc in absurd (omega arith));
-        }
-
-  pub walked-new : (next : ℕ) → Walking b firsts links heads bucket i next → next ≤ 0 → Walked b firsts links heads bucket i New
-  walked-new next a h =
-      record {
-        same = λ j e. (let z : ◌≡◌ {A = ℕ} 0 1 = cc in absurd (omega arith));
-        new = λ e used l j t. a.passed used l j (omega arith) t;
-      }
-
-  pub walked_lost : Walked b firsts links heads bucket i Lost
-  walked_lost =
-      record {
-        same = λ j e. (let z : ◌≡◌ {A = ℕ} 0 1 = cc in absurd (omega arith));
-        new = λ e. (let z : ◌≡◌ {A = ℕ} 0 1 = cc in absurd (omega arith));
-      }

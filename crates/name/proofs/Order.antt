@@ -1,11 +1,13 @@
 -- The order of the first uses by their strings: a comparison leaves half of the places, a string that belongs between two places stands at none, and a place more keeps the order.
-use Rattle.std.proofs.Common.{◌≡◌, ℕ, zero, suc, ◌+◌, ◌-◌, ◌*◌, ◌/◌, ◌<◌, ◌≤◌, true, false, eqb, ltb, List, length, get_or, drop, set, sym, refl, ap, ◌∙◌, add-zero, arith, length-drop, length-set, length-take, get_or-drop, get_or-set_other, get_or-take, get_or-set_same, ext_get_or, ltb-false, ltb-true, eqb-true}
+use Rattle.std.proofs.Common.{◌≡◌, ℕ, zero, suc, ◌+◌, ◌-◌, ◌*◌, ◌/◌, ◌<◌, ◌≤◌, eqb, ltb, Bool, List, length, get_or, take, drop, sym, refl, ap, ◌∙◌, add-zero, arith, length-drop, length-take, get_or-drop, get_or-take, ext_get_or, ltb-false, ltb-true, eqb-true}
 use borrow.Author.Tests.{eqb-false}
+use mathlib.Core.Logic.{◌⊎◌, inl, inr}
+use lib.Pointwise.{pointwise}
+use Rattle.std.specs.Cmp.Lexicographic.{same_text, other_text}
 use Rattle.model.specs.Bytes.{Bytes}
-use Rattle.name.specs.Rows.{string_start, string_length, string_at, place_of, key, ordered_at, Before, Standing, Ordered, Between, Inserted, Alike, Compared, Inside, Searchable, Sought, Sortable}
+use Rattle.name.specs.Rows.{string_start, string_length, string_at, key, ordered_at, Before, Standing, Ordered, Between, Inserted, Alike, WordAlike, Compared, Inside, Searchable, Sought, Sortable}
 use Rattle.name.specs.Hashed.{eight_at}
-use Rattle.name.specs.declared.Found.{Found}
-use Rattle.name.specs.declared.Found.TheVariants.{At, Nowhere}
+use Rattle.std.specs.Prelude.{Result, Ok, Err}
 use Rattle.model.proofs.Res.{true_false}
 use Rattle.name.proofs.Rows.{by}
 
@@ -79,45 +81,11 @@ module _ (b : Bytes) (at start size : ℕ) where
   pub alike-none : Alike b at start size 0
   alike-none = record { within = omega arith; same = λ i h. absurd (omega arith) }
 
-  pub alike-place : at ≡ start → Alike b at start size size
-  alike-place e = record { within = omega arith; same = λ i h. ap (λ (n : ℕ). get_or b (n + i) 0) e }
-
   module _ (k : ℕ) (a : Alike b at start size k) where
     pub alike-flip : Alike b start at size k
     alike-flip = record { within = a.within; same = λ i h. sym (a.same i h) }
 
-    alike-more : (n : ℕ) → k + n ≤ size → ((m : ℕ) → m < n → get_or b (at + k + m) 0 ≡ get_or b (start + k + m) 0) → Alike b at start size (k + n)
-    alike-more n h e =
-        record {
-          within = h;
-          same = λ i l.
-              by (ltb i k)
-              (λ f. a.same i (ltb-true _ _ f))
-              (λ f.
-              let g = ltb-false i k f in
-              let p : at + i ≡ at + k + (i - k) = omega arith in
-              let q : start + i ≡ start + k + (i - k) = omega arith in
-              rw (p, q) (e (i - k) (omega arith)));
-        }
-
-    pub alike_next : k < size → get_or b (at + k) 0 ≡ get_or b (start + k) 0 → Alike b at start size (k + 1)
-    alike_next h e =
-        alike-more 1 (omega arith) (λ m l. let z : m ≡ 0 = omega arith in rw (z, add-zero (at + k), add-zero (start + k)) e)
-
-    pub alike-eight : ((i : ℕ) → get_or b i 0 < 256) → k + 8 ≤ size → eight_at b (at + k) ≡ eight_at b (start + k) → Alike b at start size (k + 8)
-    alike-eight byte h e = alike-more 8 h (eight-same b byte (at + k) (start + k) e)
-
-  -- the next word, whose bytes are equal if its numbers are
-  pub alike_word : (k j x y : ℕ) → Alike b at start size (k + j) → ((i : ℕ) → get_or b i 0 < 256) → k + j + 8 ≤ size
-      → x ≡ eight_at b (at + k + j) → y ≡ eight_at b (start + k + j) → x ≡ y → Alike b at start size (k + (j + 8))
-  alike_word k j x y a byte h ex ey e =
-      let p : at + k + j ≡ at + (k + j) = omega arith in
-      let q : start + k + j ≡ start + (k + j) = omega arith in
-      let n : k + (j + 8) ≡ k + j + 8 = omega arith in
-      rw n (alike-eight (k + j) a byte h (ap (eight_at b) (sym p) ∙ sym ex ∙ e ∙ ey ∙ ap (eight_at b) q))
-
--- all of their bytes are compared: some word differs, or the last one, which lies over others, is equal too
-module _ (b : Bytes) (at start size : ℕ) where
+  -- words are equal where their bytes are
   eight-alike : Alike b at start size size → (k : ℕ) → k + 8 ≤ size → eight_at b (at + k) ≡ eight_at b (start + k)
   unfolding eight_at
   eight-alike a k h =
@@ -129,29 +97,35 @@ module _ (b : Bytes) (at start size : ℕ) where
       let e0 : get_or b (at + k) 0 ≡ get_or b (start + k) 0 = a.same k (omega arith) in
       rw (e0, e 1 (omega arith), e 2 (omega arith), e 3 (omega arith), e 4 (omega arith), e 5 (omega arith), e 6 (omega arith), e 7 (omega arith))
 
-  pub compared_equal : Alike b at start size size → Compared b at start size true
-  compared_equal a = record { equal = λ e. a; differ = λ e. true_false e }
+  pub words_alike : (k x y : ℕ) → ((i : ℕ) → get_or b i 0 < 256) → k + 8 ≤ size → x ≡ eight_at b (at + k) → y ≡ eight_at b (start + k) → WordAlike b at start size k (eqb x y)
+  words_alike k x y byte h ex ey =
+      record {
+        equal = λ e i l g.
+            let p : at + i ≡ at + k + (i - k) = omega arith in
+            let q : start + i ≡ start + k + (i - k) = omega arith in
+            rw (p, q) (eight-same b byte (at + k) (start + k) (sym ex ∙ eqb-true x y e ∙ ey) (i - k) (omega arith));
+        differ = λ e. record { equal = λ d. true_false (sym d); differ = λ d a. eqb-false x y e (ex ∙ eight-alike a k h ∙ sym ey) };
+      }
 
-  pub compared_byte : (k : ℕ) → k < size → (get_or b (at + k) 0 ≡ get_or b (start + k) 0 → ⊥) → Compared b at start size false
-  compared_byte k h n = record { equal = λ e. true_false (sym e); differ = λ e a. n (a.same k h) }
+-- few bytes are compared as slices
+module _ (b : Bytes) (at start size : ℕ) (ha : at + size ≤ length b) (hs : start + size ≤ length b) where
+  slice-byte : (i k : ℕ) → k < size → get_or (take size (drop i b)) k 0 ≡ get_or b (i + k) 0
+  slice-byte i k h = get_or-take size (drop i b) k 0 h ∙ get_or-drop i b k 0
 
-  pub compared_word : (k x y : ℕ) → k + 8 ≤ size → x ≡ eight_at b (at + k) → y ≡ eight_at b (start + k) → (x ≡ y → ⊥) → Compared b at start size false
-  compared_word k x y h ex ey n = record { equal = λ e. true_false (sym e); differ = λ e a. n (ex ∙ eight-alike a k h ∙ sym ey) }
+  slice-length : (i : ℕ) → i + size ≤ length b → length (take size (drop i b)) ≡ size
+  slice-length i h = simp (length-take, length-drop) (omega arith)
 
-  pub compared_last : (k x y : ℕ) → Alike b at start size k → size < k + 8 → 8 ≤ size → ((i : ℕ) → get_or b i 0 < 256)
-      → x ≡ eight_at b (at + (size - 8)) → y ≡ eight_at b (start + (size - 8)) → x ≡ y → Compared b at start size true
-  compared_last k x y a h g byte ex ey e =
-      compared_equal (record {
-        within = omega arith;
-        same = λ i l.
-            by (ltb i k)
-            (λ f. a.same i (ltb-true _ _ f))
-            (λ f.
-            let t = ltb-false i k f in
-            let p : at + i ≡ at + (size - 8) + (i - (size - 8)) = omega arith in
-            let q : start + i ≡ start + (size - 8) + (i - (size - 8)) = omega arith in
-            rw (p, q) (eight-same b byte (at + (size - 8)) (start + (size - 8)) (sym ex ∙ e ∙ ey) (i - (size - 8)) (omega arith)));
-      })
+  pub slices_compared : (r : Bool) → r ≡ pointwise eqb (take (at + size - at) (drop at b)) (take (start + size - start) (drop start b)) → Compared b at start size r
+  slices_compared r e =
+      let p : at + size - at ≡ size = omega arith in
+      let q : start + size - start ≡ size = omega arith in
+      let f : r ≡ pointwise eqb (take size (drop at b)) (take size (drop start b)) = rw (p, q) at e in
+      record {
+        equal = λ g. record { within = omega arith; same = λ i l. sym (slice-byte at i l) ∙ ap (λ (xs : Bytes). get_or xs i 0) (same_text _ _ (sym g ∙ f)) ∙ slice-byte start i l };
+        differ = λ g a. other_text _ _ (sym g ∙ f) (ext_get_or 0 _ _ (slice-length at ha ∙ sym (slice-length start hs)) (λ m l.
+            let k : m < size = omega (arith, slice-length at ha) in
+            slice-byte at m k ∙ a.same m k ∙ sym (slice-byte start m k)));
+      }
 
 -- the strings of two rows: shorter ones come first, then the first byte that differs decides
 module _ (b : Bytes) (f i : ℕ) (hf : Inside b f) (hi : Inside b i) where
@@ -192,10 +166,6 @@ pub halved : (low high : ℕ) → low < high → (low ≤ low + (high - low) / 2
 halved low high h = (omega arith, omega arith)
 
 module _ (b : Bytes) (firsts order : List ℕ) (used : ℕ) (s : Bytes) where
-  pub between_start : Between b firsts order used s 0 used
-  between_start =
-      record { meet = omega arith; within = omega arith; below = λ k h. absurd (omega arith); above = λ k h l. absurd (omega arith) }
-
   module _ (o : Ordered b firsts order used) (low high : ℕ) (w : Between b firsts order used s low high) where
     module _ (m : ℕ) (hl : low ≤ m) (hh : m < high) where
       pub between-low : Before (ordered_at b firsts order m) s → Between b firsts order used s (m + 1) high
@@ -233,11 +203,8 @@ module _ (b : Bytes) (firsts order : List ℕ) (used : ℕ) (s : Bytes) where
         (λ l. before-differ _ _ (w.above t.place (omega (arith, ltb-false t.place low l)) t.below) (sym g))
 
 -- a turn of the search: the row at the middle place, and what a comparison with its string leaves
-module _ (b : Bytes) (firsts order : List ℕ) (used i : ℕ) (p : Searchable b firsts order used i) (low high : ℕ) (w : Between b firsts order used (string_at b i) low high)
-    (m : ℕ) (hl : low ≤ m) (hh : m < high) where
-  pub middle_place : m < length order
-  middle_place = omega (arith, w.within, p.places)
-
+module _ {b : Bytes} {firsts order : List ℕ} {used i : ℕ} (p : Searchable b firsts order used i) {low high : ℕ} (w : Between b firsts order used (string_at b i) low high)
+    {m : ℕ} (hl : low ≤ m) (hh : m < high) where
   pub middle_number : get_or order m 0 < used
   middle_number = p.ordered.number m (omega (arith, w.within))
 
@@ -252,14 +219,14 @@ module _ (b : Bytes) (firsts order : List ℕ) (used i : ℕ) (p : Searchable b 
   unfolding ordered_at
   middle_high q = between-high b firsts order used (string_at b i) p.ordered low high w m hl hh q
 
-  module _ (length size : ℕ) (el : length ≡ string_length b (get_or firsts (get_or order m 0) 0)) (es : size ≡ string_length b i) where
+  module _ {length size : ℕ} (el : length ≡ string_length b (get_or firsts (get_or order m 0) 0)) (es : size ≡ string_length b i) where
     pub turn-shorter : length < size → Between b firsts order used (string_at b i) (m + 1) high
     turn-shorter h = middle_low (shorter-before b (get_or firsts (get_or order m 0) 0) i middle_inside p.sought (omega arith))
 
     pub turn-longer : size < length → Between b firsts order used (string_at b i) low m
     turn-longer h = middle_high (shorter-before b i (get_or firsts (get_or order m 0) 0) p.sought middle_inside (omega arith))
 
-    module _ (e : length ≡ size) (at start k : ℕ) (ea : at ≡ string_start b (get_or firsts (get_or order m 0) 0)) (et : start ≡ string_start b i) (a : Alike b at start size k) where
+    module _ (e : length ≡ size) {at start k : ℕ} (ea : at ≡ string_start b (get_or firsts (get_or order m 0) 0)) (et : start ≡ string_start b i) (a : Alike b at start size k) where
       pub turn-lesser : k < size → get_or b (at + k) 0 < get_or b (start + k) 0 → Between b firsts order used (string_at b i) (m + 1) high
       turn-lesser h l =
           middle_low (alike-before b (get_or firsts (get_or order m 0) 0) i middle_inside p.sought at start size k ea et (sym el ∙ e) (sym es) a h l)
@@ -272,21 +239,12 @@ module _ (b : Bytes) (firsts order : List ℕ) (used i : ℕ) (p : Searchable b 
       turn-equal h = alike_all b (get_or firsts (get_or order m 0) 0) i middle_inside p.sought at start size k ea et (sym el ∙ e) (sym es) a h
 
   -- a match, and its end without one
-  pub sought-at : string_at b (get_or firsts (get_or order m 0) 0) ≡ string_at b i → Sought b firsts order used i (At (get_or order m 0))
+  pub sought-at : string_at b (get_or firsts (get_or order m 0) 0) ≡ string_at b i → Sought b firsts order used i (Ok (get_or order m 0))
   sought-at h =
       record {
         at = λ j e. (let q : get_or order m 0 ≡ j = cc in (rw q at middle_number, rw q at h));
         nowhere = λ k e. (let z : ◌≡◌ {A = ℕ} 0 1 = cc in absurd (omega arith));
       }
-
-pub sought-nowhere : (b : Bytes) (firsts order : List ℕ) (used i low high : ℕ) → Between b firsts order used (string_at b i) low high → high ≤ low → Sought b firsts order used i (Nowhere low)
-sought-nowhere b firsts order used i low high w h =
-    let q : high ≡ low = omega (arith, w.meet) in
-    let v : Between b firsts order used (string_at b i) low low = rw q at w in
-    record {
-      at = λ j e. (let z : ◌≡◌ {A = ℕ} 0 1 = cc in absurd (omega arith));
-      nowhere = λ p e. (let q : low ≡ p = cc in rw q at v);
-    }
 
 -- a place below p, at p, or behind it
 split : {C : Type 0} (k p : ℕ) → (k < p → C) → (k ≡ p → C) → ((m : ℕ) → k ≡ m + 1 → p ≤ m → C) → C
@@ -348,69 +306,13 @@ module _ (b : Bytes) (firsts more order new : List ℕ) (used row p : ℕ) (rows
   pub ordered-more : Ordered b more new (used + 1)
   ordered-more = record { number = number_more; every = every_more; ascending = ascending-more }
 
-pub ordered-none : (b : Bytes) (firsts order : List ℕ) → Ordered b firsts order 0
-ordered-none b firsts order =
-    record { number = λ k h. absurd (omega arith); every = λ j h. absurd (omega arith); ascending = λ k l h t. absurd (omega arith) }
-
 -- numbers put in order one by one: a string that differs from all before it is found nowhere
-sought-new : (b : Bytes) (firsts order : List ℕ) (used i : ℕ) (f : Found) → Sought b firsts order used i f
-    → ((j : ℕ) → j < used → string_at b (get_or firsts j 0) ≡ string_at b i → ⊥) → Between b firsts order used (string_at b i) (place_of f) (place_of f)
-sought-new b firsts order used i (At j) s n = absurd (n j (s.at j refl).0 (s.at j refl).1)
-sought-new b firsts order used i (Nowhere p) s n = s.nowhere p refl
+module _ {b : Bytes} {firsts order₀ order : List ℕ} {used k : ℕ} (q : Sortable b firsts order₀ used) (h : k < used) (o : Ordered b firsts order k)
+    {f : Result ℕ ℕ} (s : Sought b firsts order k (get_or firsts k 0) f) where
+  -- whichever way the code reads its place
+  pub sort-nowhere : (p place : ℕ) → (f ≡ Ok p) ⊎ (f ≡ Err p) → place ≡ p → f ≡ Err place
+  sort-nowhere p place (inl e) z = absurd (q.apart.differ p k (s.at p e).0 h (s.at p e).1)
+  sort-nowhere p place (inr e) z = rw z e
 
-module _ (b : Bytes) (firsts order₀ order : List ℕ) (used k : ℕ) (q : Sortable b firsts order₀ used) (same : length order ≡ length order₀) (h : k < used)
-    (o : Ordered b firsts order k) where
-  pub sort_searchable : Searchable b firsts order k (get_or firsts k 0)
-  sort_searchable =
-      record {
-        sought = q.among k h;
-        among = λ j l. q.among j (omega arith);
-        ordered = o;
-        rows = omega (arith, q.rows);
-        places = omega (arith, q.places);
-      }
-
-  module _ (f : Found) (s : Sought b firsts order k (get_or firsts k 0) f) where
-    pub sort-place : Between b firsts order k (string_at b (get_or firsts k 0)) (place_of f) (place_of f)
-    sort-place = sought-new b firsts order k (get_or firsts k 0) f s (λ j l e. q.apart.differ j k l h e)
-
-    pub sort-next : (new : List ℕ) → Inserted order new k (place_of f) → Ordered b firsts new (k + 1)
-    sort-next new n = ordered-more b firsts firsts order new k (get_or firsts k 0) (place_of f) (λ j l. refl) refl o sort-place n
-
--- the loop that moves numbers on by one: those from place k on have moved
-pub record Moved (old new : List ℕ) (used k : ℕ) : Type 0 where
-  pub within : k ≤ used
-  pub room : length new ≡ length old
-  pub below : (i : ℕ) → i < k → get_or new i 0 ≡ get_or old i 0
-  pub above : (i : ℕ) → k ≤ i → i < used → get_or new (i + 1) 0 ≡ get_or old i 0
-
-module _ (old : List ℕ) (used : ℕ) where
-  pub moved_none : Moved old old used used
-  moved_none = record { within = omega arith; room = refl; below = λ i h. refl; above = λ i h l. absurd (omega arith) }
-
-  module _ (new : List ℕ) (k : ℕ) (m : Moved old new used k) (h : used < length old) where
-    pub moved-next : 0 < k → Moved old (set new k (get_or new (k - 1) 0)) used (k - 1)
-    moved-next z =
-        record {
-          within = omega (arith, m.within);
-          room = length-set new k _ ∙ m.room;
-          below = λ i l. get_or-set_other new k i _ 0 (λ e. omega arith) ∙ m.below i (omega arith);
-          above = λ i l t.
-              by (ltb i k)
-              (λ e.
-              let a : i < k = ltb-true _ _ e in
-              let g : k - 1 ≡ i = omega arith in
-              let c : i + 1 ≡ k = omega arith in
-              rw (c, g) (get_or-set_same new k (get_or new i 0) 0 (omega (arith, m.within, m.room)) ∙ m.below i a))
-              (λ e.
-              let a : k ≤ i = ltb-false _ _ e in
-              get_or-set_other new k (i + 1) _ 0 (λ d. omega arith) ∙ m.above i a t);
-        }
-
-    pub moved-end : Inserted old (set new k used) used k
-    moved-end =
-        record {
-          below = λ i l. get_or-set_other new k i used 0 (λ e. omega arith) ∙ m.below i l;
-          here = get_or-set_same new k used 0 (omega (arith, m.within, m.room));
-          above = λ i l t. get_or-set_other new k (i + 1) used 0 (λ e. omega arith) ∙ m.above i l t;
-        }
+  pub sort-next : (p : ℕ) → f ≡ Err p → (new : List ℕ) → Inserted order new k p → Ordered b firsts new (k + 1)
+  sort-next p e new n = ordered-more b firsts firsts order new k (get_or firsts k 0) p (λ j l. refl) refl o (s.nowhere p e) n

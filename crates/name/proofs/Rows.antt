@@ -248,6 +248,3 @@ module _ (b : Bytes) where
 
     pub counting-stop : (m : ℕ) → i < m → kept_at b i ≡ true → inside_at b i ≡ false → refuse 4 ≡ map_res length (tested b m)
     counting-stop m h k e = rw (tested-stop b i storage m h k e c.ranges)
-
-    pub counting-end : ok n ≡ map_res length (tested b i)
-    counting-end = rw (c.ranges, c.count)

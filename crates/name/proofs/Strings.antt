@@ -1,14 +1,14 @@
 -- The distinct strings row by row: a kept string is one of them already, or becomes the last; what is stored keeps its offset.
-use Rattle.std.proofs.Common.{◌≡◌, ℕ, zero, suc, ◌+◌, ◌-◌, ◌<◌, ◌≤◌, Bool, true, false, eqb, ltb, List, [], ◌∷◌, ◌++◌, map, length, get_or, take, set, replicate, sym, refl, ap, ◌∙◌, ap₂, append_assoc, append-nil, zero-add, add-one, arith, length-append, length-set, length-take-le, get_or-set_other, get_or-take, get_or-set_same, take-suc-set, ltb-false, ltb-true, eq-eqb, eqb-true, le-leb}
+use Rattle.std.proofs.Common.{◌≡◌, ℕ, zero, suc, ◌+◌, ◌-◌, ◌<◌, ◌≤◌, true, false, eqb, ltb, List, [], ◌∷◌, ◌++◌, map, length, get_or, take, set, sym, refl, ap, ◌∙◌, ap₂, append_assoc, append-nil, zero-add, add-one, arith, length-append, length-set, length-take-le, get_or-set_other, get_or-take, get_or-set_same, take-suc-set, ltb-false, ltb-true, eq-eqb, eqb-true, le-leb}
 use mathlib.Core.List.{map-append}
-use lib.ListN.{length-replicate, get_or-replicate, get_or-append}
+use lib.ListN.{get_or-append}
 use lib.Seq.{get_or_at}
 use borrow.Author.Tests.{lt-leb}
 use Rattle.model.specs.Res.{refuse, ok, pick}
 use Rattle.model.specs.Bytes.{Bytes, word16, concat, same_bytes}
 use Rattle.model.specs.Name.{NameEntry, stored?, store, offset_of}
 use Rattle.model.proofs.Res.{both_true, true_false}
-use Rattle.name.specs.Rows.{string_length, string_at, kept_at, entry_at, entries, strings, first_rows, distinct_bytes, Between, Ordered, Inserted, Buckets, Cleared, Apart, Linked, Arranged, Inside, Searchable, Walkable, Sortable, Uses, Roomy, Lent, Notable}
+use Rattle.name.specs.Rows.{string_length, string_at, kept_at, entry_at, entries, strings, first_rows, distinct_bytes, Between, Ordered, Inserted, Buckets, Cleared, Apart, Linked, Arranged, Inside, Searchable, Walkable, Sortable, Uses, Roomy, Notable}
 use Rattle.name.specs.Hashed.{bucket_of}
 use Rattle.name.proofs.Rows.{by, entries-kept, entries_skip}
 use Rattle.name.proofs.Links.{linked-more}
@@ -170,19 +170,32 @@ firsts-inside b (suc n) t =
 pub buckets-same : (heads new : List ℕ) → Buckets heads → length new ≡ length heads → Buckets new
 buckets-same heads new c e = record { some = omega (arith, c.some); few = omega (arith, c.few) }
 
-pub cleared-zero : (n : ℕ) → 0 < n → n ≤ 4096 → Cleared (replicate n 0)
-cleared-zero n h k =
+-- the arrays have room for what can be noted
+pub record Lent (b : Bytes) (firsts offsets order : List ℕ) : Type 0 where
+  pub room : Roomy b (length firsts)
+  pub second : length offsets ≡ length firsts
+  pub third : length order ≡ length firsts
+
+pub record Notable_in (b : Bytes) (i : ℕ) (firsts offsets order : List ℕ) (used end : ℕ) : Type 0 where
+  pub lent : Lent b firsts offsets order
+  pub row : i < word16 b 2
+  pub kept : kept_at b i ≡ true
+  pub uses : Uses b i firsts offsets used end
+  pub small : end ≤ 65535
+
+pub notable_in : {b : Bytes} {i places : ℕ} {firsts offsets : List ℕ} {used end : ℕ} (order : List ℕ) → Notable b i places firsts offsets used end
+    → length firsts ≡ places → length offsets ≡ places → length order ≡ places → Notable_in b i firsts offsets order used end
+notable_in order n e f g =
     record {
-      buckets = record { some = rw (length-replicate {A = ℕ} n 0) h; few = rw (length-replicate {A = ℕ} n 0) k };
-      zero = λ j l. get_or-replicate {A = ℕ} n j 0 0 (rw (length-replicate {A = ℕ} n 0) at l);
+      lent = record { room = rw e n.room; second = f ∙ sym e; third = g ∙ sym e };
+      row = n.row;
+      kept = n.kept;
+      uses = n.uses;
+      small = n.small;
     }
 
-pub arranged_ordered : (b : Bytes) (firsts links heads : List ℕ) (used : ℕ) (sorted : Bool) → Buckets heads → Ordered b firsts links used → sorted ≡ true
-    → Arranged b firsts links heads used sorted
-arranged_ordered b firsts links heads used sorted c o e = record { buckets = c; ordered = λ q. o; linked = λ q. true_false (sym e ∙ q) }
-
 -- a kept row's string is noted: the first uses and their bytes so far, before and after
-module _ (b : Bytes) (firsts offsets order : List ℕ) (used end row : ℕ) (n : Notable b row firsts offsets order used end) where
+module _ {b : Bytes} {firsts offsets order : List ℕ} {used end row : ℕ} (n : Notable_in b row firsts offsets order used end) where
   pub used-few : used < length (entries b (word16 b 2))
   used-few =
       let l : length (first_rows b row) ≡ used = ap length (sym n.uses.rows) ∙ length-take-le used firsts n.uses.room in
@@ -317,16 +330,6 @@ module _ (b : Bytes) (firsts offsets order : List ℕ) (used end row : ℕ) (n :
         linked = λ q. linked-more b firsts order heads used row bucket l used-room (omega (arith, used-room, n.lent.third)) h e a;
       }
 
-  pub notable_order : (new : List ℕ) → length new ≡ length order → Notable b row firsts offsets new used end
-  notable_order new e =
-      record {
-        lent = record { room = n.lent.room; second = n.lent.second; third = e ∙ n.lent.third };
-        row = n.row;
-        kept = n.kept;
-        uses = n.uses;
-        small = n.small;
-      }
-
 -- later rows add strings behind
 pub record Begins (xs ys : List Bytes) : Type 0 where
   pub rest : List Bytes
@@ -412,11 +415,6 @@ module _ (b : Bytes) where
   -- room for so many rows is room enough
   pub roomy_rows : (places rows : ℕ) → Roomy b places → word16 b 2 ≤ rows → Roomy b rows
   roomy_rows places rows r h = record { tested = r.tested; room = omega (arith, length-entries b (word16 b 2)); few = r.few }
-
-  pub lent_rows : (firsts offsets order firsts₀ offsets₀ order₀ : List ℕ) → Lent b firsts₀ offsets₀ order₀
-      → length firsts ≡ length firsts₀ → length offsets ≡ length offsets₀ → length order ≡ length order₀ → Lent b firsts offsets order
-  lent_rows firsts offsets order firsts₀ offsets₀ order₀ l e f g =
-      record { room = rw e l.room; second = f ∙ l.second ∙ sym e; third = g ∙ l.third ∙ sym e }
 
   -- a kept row's string is stored, where it stays
   pub string_stays : (i n : ℕ) → i < n → kept_at b i ≡ true → offset_of (string_at b i) (strings b (i + 1)) ≡ offset_of (string_at b i) (strings b n)

@@ -247,7 +247,7 @@ record_put d at p l o h e =
     put_next d (put (put d at p) (at + 8) (be16 l)) (p ++ be16 l) (be16 o) at (at + 10) h a n ∙ ap (put d at) (append_assoc p (be16 l) (be16 o))
 
 -- what the records' pass leaves to the strings' pass
-module _ (b firsts out out₀ : Bytes) (kept used : ℕ) (t : Tested b) (r : Recorded b firsts out out₀ kept used) where
+module _ {b firsts out out₀ : Bytes} {kept used : ℕ} (t : Tested b) (r : Recorded b firsts out out₀ kept used) where
   pub recorded_strings : concat (map (string_at b) (take used firsts)) ≡ concat (strings b (word16 b 2))
   recorded_strings = ap (λ xs. concat (map (string_at b) xs)) r.rows ∙ ap concat (firsts-strings b (word16 b 2))
 

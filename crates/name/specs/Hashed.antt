@@ -1,5 +1,5 @@
 -- The bucket of a string. Nothing is promised of it but that it is a function of the bytes, and that first uses are linked by it.
-use Rattle.std.specs.Prelude.{◌≡◌, ℕ, zero, suc, ◌+◌, ◌-◌, ◌*◌, ◌/◌, ◌%◌, ◌^◌, ◌<◌, ◌≤◌, length, ◌==◌, nat_le, slice_index}
+use Rattle.std.specs.Prelude.{◌≡◌, ℕ, zero, suc, ◌+◌, ◌-◌, ◌*◌, ◌/◌, ◌%◌, ◌^◌, ◌<◌, ◌≤◌, min, length, ◌==◌, nat_le, slice_index}
 use Rattle.model.specs.Res.{pick}
 use Rattle.model.specs.Bytes.{Bytes, word32}
 
@@ -24,7 +24,7 @@ last_word s =
     (pick (length s == 0) 0 (slice_index s 0 * 65536 + slice_index s (length s / 2) * 256 + slice_index s (length s - 1))))
 
 unfoldable pub sampled_of : ℕ → ℕ → ℕ
-sampled_of size buckets = pick (nat_le 4096 buckets) size (pick (nat_le size 8) size 8)
+sampled_of size buckets = pick (nat_le 4096 buckets) size (min size 8)
 
 unfoldable pub sum_of : Bytes → ℕ → ℕ
 sum_of s buckets = (words_of s (sampled_of (length s) buckets / 8) + mixed_of (last_word s) (length s)) % 2 ^ 64

@@ -1,23 +1,11 @@
 -- The name table by row numbers, as the code goes through it. proofs/ ties each definition to `cut_name`.
-use Rattle.std.specs.Prelude.{◌≡◌, ℕ, zero, suc, ◌+◌, ◌*◌, ◌<◌, ◌≤◌, Bool, true, false, List, [], ◌∷◌, ◌++◌, map, length, take, drop, ◌≢◌, nat_le, slice_index, slice_index_or}
-use Rattle.model.specs.Res.{Res, refuse, ok, pick, both, need, each, ◌>>◌}
+use Rattle.std.specs.Prelude.{◌≡◌, ℕ, zero, suc, ◌+◌, ◌*◌, ◌<◌, ◌≤◌, Bool, true, false, List, [], ◌∷◌, ◌++◌, map, length, take, drop, ◌≢◌, nat_le, slice_index, slice_index_or, Result, Ok, Err}
+use Rattle.model.specs.Res.{Res, ok, pick, both, need, each, ◌>>◌}
 use Rattle.model.specs.Bytes.{Bytes, word16, be16, put, part, concat}
 use Rattle.model.specs.Name.{NameEntry, name_rows, kept_rows, name_entry, is_kept, stored?, store, offset_of, new_row, new_name}
 use Rattle.name.specs.Hashed.{bucket_of, Latest}
-use Rattle.name.specs.declared.Found.{Found}
-use Rattle.name.specs.declared.Found.TheVariants.{At, Nowhere}
 use Rattle.name.specs.declared.Link.{Link}
 use Rattle.name.specs.declared.Link.TheVariants.{Same, New}
-use Rattle.name.specs.declared.Counted.{Counted}
-use Rattle.name.specs.declared.Counted.TheVariants.{Records, No}
-
-abbrev pub counted_of : Counted → Res ℕ
-counted_of (Records n) = ok n
-counted_of (No k) = refuse k
-
-abbrev pub place_of : Found → ℕ
-place_of (At j) = j
-place_of (Nowhere p) = p
 
 -- row i, and where its string stands in the table
 abbrev pub row_at : Bytes → ℕ → Bytes
@@ -153,6 +141,11 @@ pub record Compared (b : Bytes) (at start size : ℕ) (r : Bool) : Type 0 where
   pub equal : r ≡ true → Alike b at start size size
   pub differ : r ≡ false → Alike b at start size size → ⊥
 
+-- whether the eight bytes that stand k bytes behind the two places are equal
+pub record WordAlike (b : Bytes) (at start size k : ℕ) (r : Bool) : Type 0 where
+  pub equal : r ≡ true → (i : ℕ) → k ≤ i → i < k + 8 → slice_index b (at + i) ≡ slice_index b (start + i)
+  pub differ : r ≡ false → Compared b at start size false
+
 -- row i and its string lie in the table
 pub record Inside (b : Bytes) (i : ℕ) : Type 0 where
   pub row : 6 + 12 * i + 12 ≤ length b
@@ -166,9 +159,9 @@ pub record Searchable (b : Bytes) (firsts order : List ℕ) (used i : ℕ) : Typ
   pub rows : used ≤ length firsts
   pub places : used ≤ length order
 
-pub record Sought (b : Bytes) (firsts order : List ℕ) (used i : ℕ) (f : Found) : Type 0 where
-  pub at : (j : ℕ) → f ≡ At j → (j < used) × (string_at b (slice_index firsts j) ≡ string_at b i)
-  pub nowhere : (p : ℕ) → f ≡ Nowhere p → Between b firsts order used (string_at b i) p p
+pub record Sought (b : Bytes) (firsts order : List ℕ) (used i : ℕ) (f : Result ℕ ℕ) : Type 0 where
+  pub at : (j : ℕ) → f ≡ Ok j → (j < used) × (string_at b (slice_index firsts j) ≡ string_at b i)
+  pub nowhere : (p : ℕ) → f ≡ Err p → Between b firsts order used (string_at b i) p p
 
 -- the same by the links of the string's bucket
 pub record Walkable (b : Bytes) (firsts links heads : List ℕ) (bucket i : ℕ) : Type 0 where
@@ -206,29 +199,23 @@ pub record Uses (b : Bytes) (n : ℕ) (firsts offsets : List ℕ) (used end : �
   pub bytes : end ≡ length (concat (strings b n))
   pub starts : (j : ℕ) → j < used → slice_index offsets j ≡ offset_of (string_at b (slice_index firsts j)) (strings b n)
 
--- every kept row can be noted in so many places, or in these arrays
+-- every kept row can be noted in so many places
 pub record Roomy (b : Bytes) (places : ℕ) : Type 0 where
   pub tested : Tested b
   pub room : length (entries b (word16 b 2)) ≤ places
   pub few : length (entries b (word16 b 2)) ≤ 5460
 
-pub record Lent (b : Bytes) (firsts offsets order : List ℕ) : Type 0 where
-  pub room : Roomy b (length firsts)
-  pub second : length offsets ≡ length firsts
-  pub third : length order ≡ length firsts
-
 -- a kept row's string can be noted
-pub record Notable (b : Bytes) (i : ℕ) (firsts offsets order : List ℕ) (used end : ℕ) : Type 0 where
-  pub lent : Lent b firsts offsets order
+pub record Notable (b : Bytes) (i places : ℕ) (firsts offsets : List ℕ) (used end : ℕ) : Type 0 where
+  pub room : Roomy b places
   pub row : i < word16 b 2
   pub kept : kept_at b i ≡ true
   pub uses : Uses b i firsts offsets used end
   pub small : end ≤ 65535
 
--- the table can be written, with these arrays to note first uses and so many bytes of output
-pub record Writable (b : Bytes) (firsts offsets links heads : List ℕ) (size : ℕ) : Type 0 where
-  pub lent : Lent b firsts offsets links
-  pub cleared : Cleared heads
+-- the table can be written, with so many places to note first uses and so many bytes of output
+pub record Writable (b : Bytes) (places size : ℕ) : Type 0 where
+  pub room : Roomy b places
   pub small : length (concat (strings b (word16 b 2))) ≤ 65535
   pub fits : 6 + 12 * length (entries b (word16 b 2)) + length (concat (strings b (word16 b 2))) ≤ size
 

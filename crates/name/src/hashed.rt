@@ -8,7 +8,7 @@ pub fn bucket(s: &[u8], buckets: usize) -> usize
     ensures { (result ≡ bucket_of s.now buckets) × (result < buckets) }
 {
     let front = words(s, sampled(s.len(), buckets));
-    let sum = std::num::wrapping_add_u64(front, mixed(last_word(s), s.len()));
+    let sum = front.wrapping_add(mixed(last_word(s), s.len()));
     let folded = (sum / 0x1_0000_0000 + sum % 0x1_0000_0000) * 0x5BD1_E995 / 0x1_0000;
     (folded % 0x1_0000_0000) as usize * buckets / 0x1_0000_0000
 }
@@ -18,13 +18,7 @@ pub fn bucket(s: &[u8], buckets: usize) -> usize
 fn sampled(size: usize, buckets: usize) -> usize
     ensures { (result ≡ sampled_of size buckets) × (result ≤ size) }
 {
-    if 4096 <= buckets {
-        return size;
-    }
-    if size <= 8 {
-        return size;
-    }
-    8
+    if 4096 <= buckets { size } else { size.min(8) }
 }
 
 // The whole words of the first n bytes.
@@ -33,10 +27,8 @@ fn words(s: &[u8], n: usize) -> u64
     ensures { result ≡ words_of s.now (n / 8) }
 {
     let mut sum = 0u64;
-    let mut k = 0;
-    while k + 8 <= n {
-        sum = std::num::wrapping_add_u64(sum, mixed(crate::eight_at(s, k), k));
-        k += 8;
+    for word in 0..n / 8 {
+        sum = sum.wrapping_add(mixed(crate::eight_at(s, 8 * word), 8 * word));
     }
     sum
 }
@@ -50,12 +42,12 @@ fn last_word(s: &[u8]) -> u64
         return crate::eight_at(s, n - 8);
     }
     if 4 <= n {
-        return read::u32_at(s, 0) as u64 * 0x1_0000_0000 + read::u32_at(s, n - 4) as u64;
+        return u64::from(read::u32_at(s, 0)) * 0x1_0000_0000 + u64::from(read::u32_at(s, n - 4));
     }
     if n == 0 {
         return 0;
     }
-    crate::wide(s[0]) * 0x1_0000 + crate::wide(s[n / 2]) * 0x100 + crate::wide(s[n - 1])
+    u64::from(s[0]) * 0x1_0000 + u64::from(s[n / 2]) * 0x100 + u64::from(s[n - 1])
 }
 
 // A word and its place, which the words' sum must know: the product of two halves.
@@ -63,6 +55,6 @@ fn mixed(word: u64, at: usize) -> u64
     requires { at ≤ 65535 }
     ensures { result ≡ mixed_of word at }
 {
-    let x = std::num::wrapping_add_u64(word, 0x9E37_79B9_7F4A_7C15 + at as u64);
+    let x = word.wrapping_add(0x9E37_79B9_7F4A_7C15 + at as u64);
     (x % 0x1_0000_0000) * (x / 0x1_0000_0000)
 }

@@ -1,33 +1,21 @@
 // name: the kept records with new offsets, their strings stored once each, at the first use (document 01, step 7: refusals 3, 4, 5).
 // measure tests everything and says how long the new table is; write writes it into its own part of the output.
-// Both note the first uses in arrays of their own: rows and new offsets in order of use, and links between those whose strings have one
-// bucket (hashed.rt), so that a string is compared with few others. A font made so that many share a bucket loses only that: after a
+// Both note the first uses in a FirstUses of their own: rows and new offsets in order of use, and links between those whose strings have
+// one bucket (hashed.rt), so that a string is compared with few others. A font made so that many share a bucket loses only that: after a
 // dozen links in vain the numbers of the first uses are put in the order of their strings, which are then found by halving.
 #![tactic(auto)]
 
 mod hashed;
 
-ghost use Rattle.std.specs.Prelude.{◌≡◌, ℕ, ◌+◌, ◌*◌, ◌<◌, ◌≤◌, true, false, [], map, length, ◌==◌, ◌≢◌, nat_le, slice_index};
+ghost use Rattle.std.specs.Prelude.{◌≡◌, ℕ, ◌+◌, ◌*◌, ◌<◌, ◌≤◌, true, false, [], map, length, take, ◌==◌, ◌≢◌, nat_le, slice_index, slice_set};
 ghost use Rattle.model.specs.Res.{both, either, map_res, is_ok, value_of};
 ghost use Rattle.model.specs.Bytes.{word16, put, over, concat};
 ghost use Rattle.model.specs.Name.{offset_of, name_entries, new_name, cut_name};
-ghost use Rattle.answer.specs.Answers.{size_of};
-ghost use Rattle.name.specs.Rows.{counted_of, place_of, kept_at, inside_at, string_start, string_length, string_at, tested, entries, strings, distinct_bytes, new_record, new_table, Inside, Alike, Compared, Cleared, Ordered, Arranged, Searchable, Sought, Walkable, Walked, Sortable, Inserted, Tested, Uses, Roomy, Lent, Notable, Writable, Recorded};
+ghost use Rattle.answer.specs.Answers.{res_of};
+ghost use Rattle.name.specs.Rows.{kept_at, inside_at, string_start, string_length, string_at, tested, entries, strings, distinct_bytes, new_record, new_table, Inside, Alike, WordAlike, Compared, Cleared, Ordered, Arranged, Searchable, Sought, Walkable, Walked, Sortable, Inserted, Tested, Uses, Roomy, Notable, Writable, Recorded};
 ghost use Rattle.name.specs.Hashed.{eight_at};
 
-// How many records are kept, or the refusal.
-#[derive(Clone, Copy)]
-enum Counted {
-    Records(usize),
-    No(u32),
-}
-
-// The number of the first use that has an equal string, or the place of a new string in the order.
-#[derive(Clone, Copy)]
-enum Found {
-    At(usize),
-    Nowhere(usize),
-}
+use answer::Refusal;
 
 // The number of the first use that has an equal string, that there is none, or that the links were too many to tell.
 #[derive(Clone, Copy)]
@@ -37,37 +25,18 @@ enum Link {
     Lost,
 }
 
-// One more string was noted: the first uses and their bytes so far, the string's offset, and whether the first uses are in order now.
-#[derive(Clone, Copy)]
-struct Noted {
-    used: usize,
-    end: usize,
-    offset: usize,
-    sorted: bool,
-}
-
-// The records are written: how many, and of how many first uses the rows are noted.
-#[derive(Clone, Copy)]
-struct Written {
-    kept: usize,
-    used: usize,
-}
-
 // Step 7: the length of the new table, or the refusal.
-pub fn measure(name: &[u8]) -> answer::Size
-    ensures { size_of result ≡ map_res length (cut_name name.now) }
+pub fn measure(name: &[u8]) -> Result<usize, Refusal>
+    ensures { res_of result ≡ map_res length (cut_name name.now) }
 {
     if name.len() < 2 {
-        return answer::Size::No(3);
+        return Err(Refusal::MalformedFont);
     }
     if read::u16_at(name, 0) != 0 {
-        return answer::Size::Bytes(name.len());
+        return Ok(name.len());
     }
-    let counted = records(name);
-    match counted {
-        Counted::No(refusal) => answer::Size::No(refusal),
-        Counted::Records(n) => measure_kept(name, n),
-    }
+    let kept = records(name)?;
+    measure_kept(name, kept)
 }
 
 // The new table, at the start of its own part of the output; "Version not 0: copied". Room for first uses as in distinct_bytes.
@@ -81,215 +50,182 @@ pub fn write(name: &[u8], out: &mut [u8])
     }
     let count = read::u16_at(name, 2);
     if count <= 64 {
-        let mut firsts = [0u16; 64];
-        let mut offsets = [0u16; 64];
-        let mut links = [0u16; 64];
-        let mut heads = [0u16; 64];
-        write_kept(name, out, &mut firsts, &mut offsets, &mut links, &mut heads);
-        return;
+        write_kept::<64, 64>(name, out);
+    } else if count <= 256 {
+        write_kept::<256, 256>(name, out);
+    } else {
+        write_kept::<5460, 4096>(name, out);
     }
-    if count <= 256 {
-        let mut firsts = [0u16; 256];
-        let mut offsets = [0u16; 256];
-        let mut links = [0u16; 256];
-        let mut heads = [0u16; 256];
-        write_kept(name, out, &mut firsts, &mut offsets, &mut links, &mut heads);
-        return;
-    }
-    let mut firsts = [0u16; 5460];
-    let mut offsets = [0u16; 5460];
-    let mut links = [0u16; 5460];
-    let mut heads = [0u16; 4096];
-    write_kept(name, out, &mut firsts, &mut offsets, &mut links, &mut heads);
 }
 
 // "header, records, storage start must be there (3)", then every range (4).
-fn records(name: &[u8]) -> Counted
-    ensures { counted_of result ≡ map_res length (name_entries name.now) }
+fn records(name: &[u8]) -> Result<usize, Refusal>
+    ensures { res_of result ≡ map_res length (name_entries name.now) }
 {
     if name.len() < 6 {
-        return Counted::No(3);
+        return Err(Refusal::MalformedFont);
     }
     let count = read::u16_at(name, 2) as usize;
     if name.len() < 6 + 12 * count {
-        return Counted::No(3);
+        return Err(Refusal::MalformedFont);
     }
     if name.len() < read::u16_at(name, 4) as usize {
-        return Counted::No(3);
+        return Err(Refusal::MalformedFont);
     }
     test_ranges(name, count)
 }
 
 // How many records are kept, each string in its range.
-fn test_ranges(name: &[u8], count: usize) -> Counted
+fn test_ranges(name: &[u8], count: usize) -> Result<usize, Refusal>
     requires { (6 + 12 * count ≤ length name.now) × (word16 name.now 4 ≤ length name.now) }
-    ensures { counted_of result ≡ map_res length (tested name.now count) }
+    ensures { res_of result ≡ map_res length (tested name.now count) }
 {
     let mut n = 0;
-    let mut i = 0;
-    while i < count {
-        if kept(name, i) {
-            if !inside(name, i) {
-                return Counted::No(4);
+    for row in 0..count {
+        if kept(name, row) {
+            if !inside(name, row) {
+                return Err(Refusal::NameOutsideStorage);
             }
             n += 1;
         }
-        i += 1;
     }
-    Counted::Records(n)
+    Ok(n)
 }
 
 // The two refusals by 5, after every range was tested.
-fn measure_kept(name: &[u8], n: usize) -> answer::Size
+fn measure_kept(name: &[u8], n: usize) -> Result<usize, Refusal>
     requires { Tested name.now × (n ≡ length (entries name.now (word16 name.now 2))) }
-    ensures { size_of result ≡ map_res length (new_table name.now) }
+    ensures { res_of result ≡ map_res length (new_table name.now) }
 {
     if 5460 < n {
-        return answer::Size::No(5);
+        return Err(Refusal::Overflow);
     }
-    let strings = distinct_bytes(name);
-    match strings {
-        answer::Size::No(refusal) => answer::Size::No(refusal),
-        answer::Size::Bytes(bytes) => answer::Size::Bytes(6 + 12 * n + bytes),
-    }
+    Ok(6 + 12 * n + distinct_bytes(name)?)
 }
 
 // Room for the first uses, which is cleared first: little for the usual table, else for as many records as may be kept.
-fn distinct_bytes(name: &[u8]) -> answer::Size
+fn distinct_bytes(name: &[u8]) -> Result<usize, Refusal>
     requires { Roomy name.now 5460 }
-    ensures { size_of result ≡ distinct_bytes name.now }
+    ensures { res_of result ≡ distinct_bytes name.now }
 {
     let count = read::u16_at(name, 2);
     if count <= 64 {
-        let mut firsts = [0u16; 64];
-        let mut offsets = [0u16; 64];
-        let mut links = [0u16; 64];
-        let mut heads = [0u16; 64];
-        return distinct(name, &mut firsts, &mut offsets, &mut links, &mut heads);
+        distinct::<64, 64>(name)
+    } else if count <= 256 {
+        distinct::<256, 256>(name)
+    } else {
+        distinct::<5460, 4096>(name)
     }
-    if count <= 256 {
-        let mut firsts = [0u16; 256];
-        let mut offsets = [0u16; 256];
-        let mut links = [0u16; 256];
-        let mut heads = [0u16; 256];
-        return distinct(name, &mut firsts, &mut offsets, &mut links, &mut heads);
-    }
-    let mut firsts = [0u16; 5460];
-    let mut offsets = [0u16; 5460];
-    let mut links = [0u16; 5460];
-    let mut heads = [0u16; 4096];
-    distinct(name, &mut firsts, &mut offsets, &mut links, &mut heads)
 }
 
 // The bytes of all distinct strings: 5 as soon as they pass 65,535.
-fn distinct(
-    name: &[u8],
-    firsts: &mut [u16],
-    offsets: &mut [u16],
-    links: &mut [u16],
-    heads: &mut [u16],
-) -> answer::Size
-    requires { Lent name.now firsts.old offsets.old links.old × Cleared heads.old }
-    ensures { size_of result ≡ distinct_bytes name.now }
+fn distinct<const USES: usize, const BUCKETS: usize>(name: &[u8]) -> Result<usize, Refusal>
+    requires { Roomy name.now USES × (USES ≤ 5460) × (0 < BUCKETS) × (BUCKETS ≤ 4096) }
+    ensures { res_of result ≡ distinct_bytes name.now }
 {
     let count = read::u16_at(name, 2) as usize;
-    let mut used = 0;
-    let mut end = 0;
-    let mut sorted = false;
-    let mut i = 0;
-    while i < count {
-        if kept(name, i) {
-            let noted = note(name, firsts, offsets, links, heads, used, end, i, sorted);
-            used = noted.used;
-            end = noted.end;
-            sorted = noted.sorted;
-            if 65535 < end {
-                return answer::Size::No(5);
+    let mut uses = FirstUses::<USES, BUCKETS>::new();
+    for row in 0..count {
+        if kept(name, row) {
+            uses.note(name, row);
+            if 65535 < uses.end {
+                return Err(Refusal::Overflow);
             }
         }
-        i += 1;
     }
-    answer::Size::Bytes(end)
+    Ok(uses.end)
 }
 
-// A kept row's string: at an earlier one's offset, or a first use, behind all others and first in its bucket.
-fn note(
-    name: &[u8],
-    firsts: &mut [u16],
-    offsets: &mut [u16],
-    links: &mut [u16],
-    heads: &mut [u16],
+// The first uses of strings, by number: their rows and new offsets in order of use, and links between those whose strings have one
+// bucket, or, once sorted, the numbers in the order of their strings in place of the links. All their strings end at `end`.
+#[derive(Drop)]
+struct FirstUses<const USES: usize, const BUCKETS: usize> {
+    rows: [u16; USES],
+    offsets: [u16; USES],
+    links: [u16; USES],
+    heads: [u16; BUCKETS],
     used: usize,
     end: usize,
-    row: usize,
     sorted: bool,
-) -> Noted
-    requires { Notable name.now row firsts.old offsets.old links.old used end × Arranged name.now firsts.old links.old heads.old used sorted }
-    ensures { Uses name.now (row + 1) firsts.new offsets.new result.used result.end × Arranged name.now firsts.new links.new heads.new result.used result.sorted × (result.offset ≡ offset_of (string_at name.now row) (strings name.now (row + 1))) }
-{
-    if sorted {
-        return note_sorted(name, firsts, offsets, links, used, end, row);
-    }
-    let bucket = hashed::bucket(string_at(name, row), heads.len());
-    let link = find_linked(name, &firsts[..], &links[..], &heads[..], bucket, row);
-    match link {
-        Link::Same(first) => Noted {
-            used: used,
-            end: end,
-            offset: offsets[first] as usize,
-            sorted: false,
-        },
-        Link::New => {
-            firsts[used] = row as u16;
-            offsets[used] = end as u16;
-            links[used] = heads[bucket];
-            heads[bucket] = (used + 1) as u16;
-            Noted {
-                used: used + 1,
-                end: end + length_at(name, row),
-                offset: end,
-                sorted: false,
-            }
-        }
-        Link::Lost => {
-            sort(name, &firsts[..], links, used);
-            note_sorted(name, firsts, offsets, links, used, end, row)
-        }
-    }
+    ghost places: { USES ≤ 5460 },
+    ghost buckets: { (0 < BUCKETS) × (BUCKETS ≤ 4096) },
 }
 
-// The same where the first uses stand in the order of their strings.
-fn note_sorted(
-    name: &[u8],
-    firsts: &mut [u16],
-    offsets: &mut [u16],
-    order: &mut [u16],
-    used: usize,
-    end: usize,
-    row: usize,
-) -> Noted
-    requires { Notable name.now row firsts.old offsets.old order.old used end × Ordered name.now firsts.old order.old used }
-    ensures { Uses name.now (row + 1) firsts.new offsets.new result.used result.end × Ordered name.now firsts.new order.new result.used × (result.sorted ≡ true) × (result.offset ≡ offset_of (string_at name.now row) (strings name.now (row + 1))) }
-{
-    let found = find_earlier(name, &firsts[..], &order[..], used, row);
-    match found {
-        Found::At(first) => Noted {
-            used: used,
-            end: end,
-            offset: offsets[first] as usize,
-            sorted: true,
-        },
-        Found::Nowhere(place) => {
-            firsts[used] = row as u16;
-            offsets[used] = end as u16;
-            insert(order, used, place);
-            Noted {
-                used: used + 1,
-                end: end + length_at(name, row),
-                offset: end,
-                sorted: true,
+impl<const USES: usize, const BUCKETS: usize> FirstUses<USES, BUCKETS> {
+    fn new() -> Self
+        requires { (USES ≤ 5460) × (0 < BUCKETS) × (BUCKETS ≤ 4096) }
+        ensures { Cleared result.heads × (result.used ≡ 0) × (result.end ≡ 0) × (result.sorted ≡ false) }
+    {
+        FirstUses {
+            rows: [0; USES],
+            offsets: [0; USES],
+            links: [0; USES],
+            heads: [0; BUCKETS],
+            used: 0,
+            end: 0,
+            sorted: false,
+        }
+    }
+
+    // The rows of all first uses.
+    fn rows(&self) -> &[u16]
+        requires { self.now.used ≤ length self.now.rows }
+        ensures { result.now ≡ take self.now.used self.now.rows }
+    {
+        &self.rows[..self.used]
+    }
+
+    // A kept row's string, whose offset it answers: at an earlier one's offset, or a first use, behind all others and first in its bucket.
+    fn note(&mut self, name: &[u8], row: usize) -> usize
+        requires { Notable name.now row USES self.old.rows self.old.offsets self.old.used self.old.end × Arranged name.now self.old.rows self.old.links self.old.heads self.old.used self.old.sorted }
+        ensures { Uses name.now (row + 1) self.new.rows self.new.offsets self.new.used self.new.end × Arranged name.now self.new.rows self.new.links self.new.heads self.new.used self.new.sorted × (result ≡ offset_of (string_at name.now row) (strings name.now (row + 1))) }
+    {
+        if self.sorted {
+            return self.note_sorted(name, row);
+        }
+        let bucket = hashed::bucket(string_at(name, row), BUCKETS);
+        let link = find_linked(name, &self.rows, &self.links, &self.heads, bucket, row);
+        match link {
+            Link::Same(first) => self.offsets[first] as usize,
+            Link::New => {
+                self.links[self.used] = self.heads[bucket];
+                self.heads[bucket] = (self.used + 1) as u16;
+                self.push(row, length_at(name, row))
+            }
+            Link::Lost => {
+                sort(name, &self.rows, &mut self.links, self.used);
+                self.sorted = true;
+                self.note_sorted(name, row)
             }
         }
+    }
+
+    // The same where the first uses stand in the order of their strings.
+    fn note_sorted(&mut self, name: &[u8], row: usize) -> usize
+        requires { Notable name.now row USES self.old.rows self.old.offsets self.old.used self.old.end × Ordered name.now self.old.rows self.old.links self.old.used }
+        ensures { Uses name.now (row + 1) self.new.rows self.new.offsets self.new.used self.new.end × Ordered name.now self.new.rows self.new.links self.new.used × (self.new.heads ≡ self.old.heads) × (self.new.sorted ≡ self.old.sorted) × (result ≡ offset_of (string_at name.now row) (strings name.now (row + 1))) }
+    {
+        let found = find_earlier(name, &self.rows, &self.links, self.used, row);
+        match found {
+            Ok(first) => self.offsets[first] as usize,
+            Err(place) => {
+                insert(&mut self.links, self.used, place);
+                self.push(row, length_at(name, row))
+            }
+        }
+    }
+
+    // A first use of so many bytes, behind all others.
+    fn push(&mut self, row: usize, size: usize) -> usize
+        requires { (self.old.used < USES) × (row ≤ 65535) × (self.old.end ≤ 65535) × (size ≤ 65535) }
+        ensures { (self.new.rows ≡ slice_set self.old.rows self.old.used row) × (self.new.offsets ≡ slice_set self.old.offsets self.old.used self.old.end) × (self.new.links ≡ self.old.links) × (self.new.heads ≡ self.old.heads) × (self.new.used ≡ self.old.used + 1) × (self.new.end ≡ self.old.end + size) × (self.new.sorted ≡ self.old.sorted) × (result ≡ self.old.end) }
+    {
+        let offset = self.end;
+        self.rows[self.used] = row as u16;
+        self.offsets[self.used] = offset as u16;
+        self.used += 1;
+        self.end += size;
+        offset
     }
 }
 
@@ -307,19 +243,17 @@ fn find_linked(
     ensures { Walked name.now firsts.now links.now heads.now bucket row result }
 {
     let mut next = heads[bucket] as usize;
-    let mut steps = 0usize;
-    while 0 < next {
-        if steps == 12 {
-            return Link::Lost;
+    for _ in 0..12 {
+        if next == 0 {
+            return Link::New;
         }
         let number = next - 1;
         if equal(name, firsts[number] as usize, row) {
             return Link::Same(number);
         }
         next = links[number] as usize;
-        steps += 1;
     }
-    Link::New
+    Link::Lost // a dozen in vain
 }
 
 // Whether two rows have one string.
@@ -328,10 +262,7 @@ fn equal(name: &[u8], first: usize, row: usize) -> bool
     ensures { (result ≡ true → string_at name.now first ≡ string_at name.now row) × (result ≡ false → string_at name.now first ≢ string_at name.now row) }
 {
     let size = length_at(name, row);
-    if length_at(name, first) != size {
-        return false;
-    }
-    same(name, start_at(name, first), start_at(name, row), size)
+    length_at(name, first) == size && same(name, start_at(name, first), start_at(name, row), size)
 }
 
 // Whether the bytes at two places are equal: word by word, and the last word again, over bytes that were compared.
@@ -339,38 +270,13 @@ fn same(name: &[u8], at: usize, start: usize, size: usize) -> bool
     requires { (at + size ≤ length name.now) × (start + size ≤ length name.now) }
     ensures { Compared name.now at start size result }
 {
-    if at == start {
-        return true;
-    }
     if size < 8 {
-        return same_short(name, at, start, size);
+        return name[at..at + size] == name[start..start + size];
     }
-    let mut k = alike_blocks(name, at, start, size);
-    while k + 8 <= size {
-        if eight_at(name, at + k) != eight_at(name, start + k) {
-            return false;
-        }
-        k += 8;
-    }
-    let last = size - 8;
-    if eight_at(name, at + last) != eight_at(name, start + last) {
+    if alike(name, at, start, size) + 8 <= size {
         return false;
     }
-    true
-}
-
-fn same_short(name: &[u8], at: usize, start: usize, size: usize) -> bool
-    requires { (at + size ≤ length name.now) × (start + size ≤ length name.now) }
-    ensures { Compared name.now at start size result }
-{
-    let mut k = 0;
-    while k < size {
-        if name[at + k] != name[start + k] {
-            return false;
-        }
-        k += 1;
-    }
-    true
+    word_alike(name, at, start, size, size - 8)
 }
 
 // The numbers of the first uses in the order of their strings, one more at a time.
@@ -378,26 +284,28 @@ fn sort(name: &[u8], firsts: &[u16], order: &mut [u16], used: usize)
     requires { Sortable name.now firsts.now order.old used }
     ensures { Ordered name.now firsts.now order.new used }
 {
-    let mut k = 0;
-    while k < used {
-        let found = find_earlier(name, firsts, &order[..], k, firsts[k] as usize);
-        insert(order, k, place(found));
-        k += 1;
+    for k in 0..used {
+        let (Ok(place) | Err(place)) = find_earlier(
+            name,
+            firsts,
+            &order[..],
+            k,
+            firsts[k] as usize,
+        );
+        insert(order, k, place);
     }
 }
 
-fn place(found: Found) -> usize
-    ensures { result ≡ place_of found }
-{
-    match found {
-        Found::At(number) => number,
-        Found::Nowhere(place) => place,
-    }
-}
-
-// The first use whose string is that of a row: "try the earlier ones and leave both loops on a match".
+// The number of the first use whose string is that of a row, or the place of a new string in the order: "try the earlier ones and
+// leave both loops on a match".
 // They stand in order, by length and then by bytes, so that each comparison leaves half: 13 at most, whatever the font.
-fn find_earlier(name: &[u8], firsts: &[u16], order: &[u16], used: usize, row: usize) -> Found
+fn find_earlier(
+    name: &[u8],
+    firsts: &[u16],
+    order: &[u16],
+    used: usize,
+    row: usize,
+) -> Result<usize, usize>
     requires { Searchable name.now firsts.now order.now used row }
     ensures { Sought name.now firsts.now order.now used row result }
 {
@@ -435,9 +343,9 @@ fn find_earlier(name: &[u8], firsts: &[u16], order: &[u16], used: usize, row: us
     }
     let there = low < high;
     if there {
-        Found::At(order[middle] as usize)
+        Ok(order[middle] as usize)
     } else {
-        Found::Nowhere(low)
+        Err(low)
     }
 }
 
@@ -445,43 +353,48 @@ fn find_earlier(name: &[u8], firsts: &[u16], order: &[u16], used: usize, row: us
 // else those of whole words of eight bytes up to the first that differs. A hostile font may hold long strings that differ late.
 fn alike(name: &[u8], at: usize, start: usize, size: usize) -> usize
     requires { (at + size ≤ length name.now) × (start + size ≤ length name.now) }
-    ensures { Alike name.now at start size result }
+    ensures { Alike name.now at start size result × (result + 8 ≤ size → Compared name.now at start size false) }
 {
     if at == start {
         return size;
     }
-    let mut k = alike_blocks(name, at, start, size);
-    while k + 8 <= size {
-        if eight_at(name, at + k) != eight_at(name, start + k) {
-            return k;
+    for word in alike_blocks(name, at, start, size)..size / 8 {
+        if !word_alike(name, at, start, size, 8 * word) {
+            return 8 * word;
         }
-        k += 8;
     }
-    k
+    size / 8 * 8
 }
 
-// The same while there are four words: four comparisons a turn take long strings at twice the speed.
+// So many whole words are equal, as far as there are four: four comparisons a turn take long strings at twice the speed.
 fn alike_blocks(name: &[u8], at: usize, start: usize, size: usize) -> usize
     requires { (at + size ≤ length name.now) × (start + size ≤ length name.now) }
-    ensures { Alike name.now at start size result }
+    ensures { Alike name.now at start size (8 * result) }
 {
-    let mut k = 0;
-    while k + 32 <= size {
-        if eight_at(name, at + k) != eight_at(name, start + k) {
-            return k;
+    for block in 0..size / 32 {
+        let word = 4 * block;
+        if !word_alike(name, at, start, size, 8 * word) {
+            return word;
         }
-        if eight_at(name, at + k + 8) != eight_at(name, start + k + 8) {
-            return k + 8;
+        if !word_alike(name, at, start, size, 8 * word + 8) {
+            return word + 1;
         }
-        if eight_at(name, at + k + 16) != eight_at(name, start + k + 16) {
-            return k + 16;
+        if !word_alike(name, at, start, size, 8 * word + 16) {
+            return word + 2;
         }
-        if eight_at(name, at + k + 24) != eight_at(name, start + k + 24) {
-            return k + 24;
+        if !word_alike(name, at, start, size, 8 * word + 24) {
+            return word + 3;
         }
-        k += 32;
     }
-    k
+    size / 32 * 4
+}
+
+// Whether the eight bytes that stand k bytes behind the two places are equal.
+fn word_alike(name: &[u8], at: usize, start: usize, size: usize, k: usize) -> bool
+    requires { (at + size ≤ length name.now) × (start + size ≤ length name.now) × (k + 8 ≤ size) }
+    ensures { WordAlike name.now at start size k result }
+{
+    eight_at(name, at + k) == eight_at(name, start + k)
 }
 
 // Eight bytes as a number, the last the highest: LLVM makes one load of it.
@@ -489,89 +402,60 @@ fn eight_at(b: &[u8], at: usize) -> u64
     requires { at + 8 ≤ length b.now }
     ensures { result ≡ eight_at b.now at }
 {
-    wide(b[at])
-        + 0x100 * wide(b[at + 1])
-        + 0x1_0000 * wide(b[at + 2])
-        + 0x100_0000 * wide(b[at + 3])
-        + 0x1_0000_0000 * wide(b[at + 4])
-        + 0x100_0000_0000 * wide(b[at + 5])
-        + 0x1_0000_0000_0000 * wide(b[at + 6])
-        + 0x100_0000_0000_0000 * wide(b[at + 7])
+    u64::from_le_bytes([
+        b[at],
+        b[at + 1],
+        b[at + 2],
+        b[at + 3],
+        b[at + 4],
+        b[at + 5],
+        b[at + 6],
+        b[at + 7],
+    ])
 }
 
-fn wide(x: u8) -> u64
-    ensures { (result ≡ x) × (result < 256) }
-{
-    x as u64
-}
-
-// The number of a new first use is given a place in the order; those behind it move on by one, from the last. LLVM makes a vector copy of this loop.
+// The number of a new first use is given a place in the order; those behind it move on by one.
 fn insert(order: &mut [u16], used: usize, place: usize)
     requires { (place ≤ used) × (used < length order.old) × (used ≤ 65535) }
     ensures { Inserted order.old order.new used place }
 {
-    let mut k = used;
-    while place < k {
-        order[k] = order[k - 1];
-        k -= 1;
-    }
+    order.copy_within(place..used, place + 1);
     order[place] = used as u16;
 }
 
 // The header comes last: the count is known then.
-fn write_kept(
-    name: &[u8],
-    out: &mut [u8],
-    firsts: &mut [u16],
-    offsets: &mut [u16],
-    links: &mut [u16],
-    heads: &mut [u16],
-)
-    requires { Writable name.now firsts.old offsets.old links.old heads.old (length out.old) }
+fn write_kept<const USES: usize, const BUCKETS: usize>(name: &[u8], out: &mut [u8])
+    requires { Writable name.now USES (length out.old) × (USES ≤ 5460) × (0 < BUCKETS) × (BUCKETS ≤ 4096) }
     ensures { out.new ≡ over (new_name (entries name.now (word16 name.now 2))) out.old }
 {
-    let written = write_records(name, out, firsts, offsets, links, heads);
-    let used = written.used;
-    let start = 6 + 12 * written.kept;
-    write_strings(name, &firsts[..used], out, start);
+    let mut uses = FirstUses::<USES, BUCKETS>::new();
+    let kept = write_records(name, out, &mut uses);
+    let start = 6 + 12 * kept;
+    write_strings(name, uses.rows(), out, start);
     write::put_u16(out, 0, 0);
-    write::put_u16(out, 2, written.kept as u16);
+    write::put_u16(out, 2, kept as u16);
     write::put_u16(out, 4, start as u16);
 }
 
-// "the records with new offsets", behind the header's six bytes.
-fn write_records(
+// "the records with new offsets", behind the header's six bytes; it answers how many.
+fn write_records<const USES: usize, const BUCKETS: usize>(
     name: &[u8],
     out: &mut [u8],
-    firsts: &mut [u16],
-    offsets: &mut [u16],
-    links: &mut [u16],
-    heads: &mut [u16],
-) -> Written
-    requires { Writable name.now firsts.old offsets.old links.old heads.old (length out.old) }
-    ensures { Recorded name.now firsts.new out.new out.old result.kept result.used }
+    uses: &mut FirstUses<USES, BUCKETS>,
+) -> usize
+    requires { Writable name.now USES (length out.old) × Cleared uses.old.heads × (uses.old.used ≡ 0) × (uses.old.end ≡ 0) × (uses.old.sorted ≡ false) }
+    ensures { Recorded name.now uses.new.rows out.new out.old result uses.new.used }
 {
     let count = read::u16_at(name, 2) as usize;
     let mut n = 0;
-    let mut used = 0;
-    let mut end = 0;
-    let mut sorted = false;
-    let mut i = 0;
-    while i < count {
-        if kept(name, i) {
-            let noted = note(name, firsts, offsets, links, heads, used, end, i, sorted);
-            put_record(name, i, noted.offset, out, 6 + 12 * n);
+    for row in 0..count {
+        if kept(name, row) {
+            let offset = uses.note(name, row);
+            put_record(name, row, offset, out, 6 + 12 * n);
             n += 1;
-            used = noted.used;
-            end = noted.end;
-            sorted = noted.sorted;
         }
-        i += 1;
     }
-    Written {
-        kept: n,
-        used: used,
-    }
+    n
 }
 
 // A row's record with its new offset.
@@ -591,12 +475,10 @@ fn write_strings(name: &[u8], firsts: &[u16], out: &mut [u8], at: usize)
     ensures { out.new ≡ put out.old at (concat (map (string_at name.now) firsts.now)) }
 {
     let mut to = at;
-    let mut j = 0;
-    while j < firsts.len() {
-        let string = string_at(name, firsts[j] as usize);
+    for row in firsts {
+        let string = string_at(name, *row as usize);
         write::copy(string, out, to);
         to += string.len();
-        j += 1;
     }
 }
 
@@ -614,14 +496,14 @@ fn kept(name: &[u8], row: usize) -> bool
 fn unicode(platform: u16, encoding: u16) -> bool
     ensures { result ≡ either (platform == 0) (both (platform == 3) (either (encoding == 0) (either (encoding == 1) (encoding == 10)))) }
 {
-    platform == 0 || platform == 3 && (encoding == 0 || (encoding == 1 || encoding == 10))
+    matches!((platform, encoding), (0, _) | (3, 0 | 1 | 10))
 }
 
 // "name ids 0 to 9 and 11 to 14"
 fn wanted(id: u16) -> bool
     ensures { result ≡ either (nat_le id 9) (both (nat_le 11 id) (nat_le id 14)) }
 {
-    id <= 9 || 11 <= id && id <= 14
+    matches!(id, 0..=9 | 11..=14)
 }
 
 // "A kept string with offset + length over 65,535 or outside storage"
@@ -631,10 +513,7 @@ fn inside(name: &[u8], row: usize) -> bool
 {
     let offset = read::u16_at(name, 6 + 12 * row + 10) as usize;
     let size = length_at(name, row);
-    if 65535 < offset + size {
-        return false;
-    }
-    start_at(name, row) + size <= name.len()
+    offset + size <= 65535 && start_at(name, row) + size <= name.len()
 }
 
 // Where the string of a row starts in the table, and its length.

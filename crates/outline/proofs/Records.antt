@@ -1,23 +1,16 @@
 -- Records by places: `rest` takes the record that `component_at` finds, and goes on behind it; so do the ids and the end.
-use mathlib.Core.Path.{◌≡◌, refl, sym, ap, ap₂, ◌∙◌, subst}
-use mathlib.Core.Bool.{Bool, true, false}
-use mathlib.Core.List.{List, [], ◌∷◌, ◌++◌, map}
-use Prim.Native.Nat.{ℕ, suc, ◌+◌, ◌*◌, ◌-◌, ◌≤◌, ◌<◌}
-use native.Mathlib.Omega.{arith}
-use native.Mathlib.Nat.{add-zero, add-sub_cancel_left}
-use lib.Dec.{ltb, leb}
-use lib.ListN.{length, drop, length-append, length-take, length-drop}
-use lib.Seq.{drop-drop, get_or-take}
-use borrow.Author.Tests.{lt-leb, le-leb, leb-true, leb-false, ltb-true}
+use Rattle.std.proofs.Common.{◌≡◌, refl, sym, ap, ap₂, ◌∙◌, subst, Bool, true, false, List, [], ◌∷◌, ◌++◌, map, Option, None, Some, ℕ, suc, ◌+◌, ◌*◌, ◌-◌, ◌≤◌, ◌<◌, arith, add-zero, ltb, leb, length, drop, length-append, length-take, length-drop, drop-drop, get_or-take, le-leb, leb-true, leb-false, ltb-true}
+use native.Mathlib.Nat.{add-sub_cancel_left}
+use borrow.Author.Tests.{lt-leb}
 use Rattle.model.specs.Res.{Res, refuse, ok, pick, need, map_res, ◌>>◌}
 use Rattle.model.specs.Bytes.{Bytes, word16, flag, holds, part, concat}
 use Rattle.model.specs.Outline.{Records, records, record_size, flags_of, id_of, before, last_of}
 use Rattle.model.proofs.Bytes.{word16-drop}
 use Rattle.model.proofs.Outline.{record_size-least, turn, records-turn}
 use Rattle.model.proofs.Outlines.{records-same}
-use Rattle.outline.specs.Places.{component_at, rest, ids_from, end_from}
+use Rattle.outline.specs.Places.{component_at, component_id, rest, ids_from, end_from}
 use Rattle.outline.specs.declared.Component.{Component}
-use Rattle.outline.specs.declared.Component.TheVariants.{More, Last, Bad}
+use Rattle.outline.specs.declared.Component.TheVariants.{More, Last}
 
 pub map-map : {A B C : Type 0} (f : A → B) (g : B → C) (m : Res A) → map_res g (map_res f m) ≡ map_res (λ (a : A). g (f a)) m
 map-map f g (refuse k) = refl
@@ -41,15 +34,15 @@ holds-drop b at size h = go (leb (at + size) (length b)) refl
     go false e = lt-leb (0 + size) (length (drop at b)) (simp length-drop (omega (arith, leb-false (at + size) (length b) e)))
 
 -- the records from a place on, by what stands there
-unfoldable pub follow : ℕ → Bytes → ℕ → Component → Res Records
-follow n b at (More id next) = map_res (before (part b at (next - at))) (rest n b next)
-follow n b at (Last id next keep) = ok (part b at (next - at) ∷ [], pick keep (drop next b) [])
-follow n b at Bad = refuse 3
+unfoldable pub follow : ℕ → Bytes → ℕ → Option Component → Res Records
+follow n b at (Some (More id next)) = map_res (before (part b at (next - at))) (rest n b next)
+follow n b at (Some (Last id next keep)) = ok (part b at (next - at) ∷ [], pick keep (drop next b) [])
+follow n b at None = refuse 3
 
-tests : (f : Component → Res Records) (x y : Component) (m l : Res Records) (head whole low more : Bool)
-    → refuse 3 ≡ f Bad → m ≡ f x → l ≡ f y
+tests : (f : Option Component → Res Records) (x y : Option Component) (m l : Res Records) (head whole low more : Bool)
+    → refuse 3 ≡ f None → m ≡ f x → l ≡ f y
     → (need 3 head >> (need 3 whole >> (need 3 low >> pick more m l)))
-    ≡ f (pick head (pick whole (pick low (pick more x y) Bad) Bad) Bad)
+    ≡ f (pick head (pick whole (pick low (pick more x y) None) None) None)
 tests f x y m l false whole low more z p q = z
 tests f x y m l true false low more z p q = z
 tests f x y m l true true false more z p q = z
@@ -68,12 +61,12 @@ module _ (n : ℕ) (b : Bytes) (at : ℕ) where
   turn-here more size e =
       rw (flags-here, ← e, holds-drop b at 4 (omega arith), holds-drop b at size (omega (arith, record_size-least (word16 b at))), word16-drop b at 2, drop-drop size at b)
 
-  followed_more : (size : ℕ) → map_res (before (part b at size)) (rest n b (at + size)) ≡ follow n b at (More (word16 b (at + 2)) (at + size))
+  followed_more : (size : ℕ) → map_res (before (part b at size)) (rest n b (at + size)) ≡ follow n b at (Some (More (word16 b (at + 2)) (at + size)))
   unfolding follow
   followed_more size = rw (add-sub_cancel_left at size)
 
   followed_last : (size : ℕ) → 2 ≤ size
-      → ok (last_of (part b at size) (drop (at + size) b)) ≡ follow n b at (Last (word16 b (at + 2)) (at + size) (flag 0x0100 (word16 b at)))
+      → ok (last_of (part b at size) (drop (at + size) b)) ≡ follow n b at (Some (Last (word16 b (at + 2)) (at + size) (flag 0x0100 (word16 b at))))
   unfolding follow
   followed_last size h =
       ap (λ (x : ℕ). ok (part b at size ∷ [], pick (flag 0x0100 x) (drop (at + size) b) []))
@@ -87,7 +80,7 @@ module _ (n : ℕ) (b : Bytes) (at : ℕ) where
       records-same n (length b) (suc (length b)) (drop at b) (simp length-drop (omega arith)) (simp length-drop (omega arith))
       ∙ records-turn n (length b) (drop at b)
       ∙ turn-here (records n (length b) (drop (record_size (flags_of (drop at b))) (drop at b))) size refl
-      ∙ tests (follow n b at) (More (word16 b (at + 2)) (at + size)) (Last (word16 b (at + 2)) (at + size) (flag 0x0100 (word16 b at)))
+      ∙ tests (follow n b at) (Some (More (word16 b (at + 2)) (at + size))) (Some (Last (word16 b (at + 2)) (at + size) (flag 0x0100 (word16 b at))))
       _ _ (holds b at 4) (holds b at size) (ltb (word16 b (at + 2)) n) (flag 0x0020 (word16 b at))
       nothing
       (ap (λ (k : ℕ). map_res (before (part b at size)) (records n (length b) (drop (record_size k) (drop at b)))) flags-here
@@ -95,7 +88,7 @@ module _ (n : ℕ) (b : Bytes) (at : ℕ) where
       ∙ followed_more size)
       (followed_last size (omega (arith, record_size-least (word16 b at))))
     where
-      nothing : refuse 3 ≡ follow n b at Bad
+      nothing : refuse 3 ≡ follow n b at None
       nothing = unfold follow in refl
 
 -- what is known of a record that was found
@@ -105,10 +98,10 @@ pub record Taken (n : ℕ) (b : Bytes) (at id next : ℕ) : Type 0 where
   pub low : id < n
   pub is-id : id ≡ word16 b (at + 2)
 
-abbrev TakenOf : ℕ → Bytes → ℕ → Component → Type 0
-TakenOf n b at (More id next) = Taken n b at id next
-TakenOf n b at (Last id next keep) = Taken n b at id next
-TakenOf n b at Bad = Unit {0}
+abbrev TakenOf : ℕ → Bytes → ℕ → Option Component → Type 0
+TakenOf n b at (Some (More id next)) = Taken n b at id next
+TakenOf n b at (Some (Last id next keep)) = Taken n b at id next
+TakenOf n b at None = Unit {0}
 
 module _ (n : ℕ) (b : Bytes) (at : ℕ) where
   taken : TakenOf n b at (component_at n b at)
@@ -119,7 +112,7 @@ module _ (n : ℕ) (b : Bytes) (at : ℕ) where
       size = record_size (word16 b at)
 
       go : (head whole low more : Bool) → holds b at size ≡ whole → ltb (word16 b (at + 2)) n ≡ low
-          → TakenOf n b at (pick head (pick whole (pick low (pick more (More (word16 b (at + 2)) (at + size)) (Last (word16 b (at + 2)) (at + size) (flag 0x0100 (word16 b at)))) Bad) Bad) Bad)
+          → TakenOf n b at (pick head (pick whole (pick low (pick more (Some (More (word16 b (at + 2)) (at + size))) (Some (Last (word16 b (at + 2)) (at + size) (flag 0x0100 (word16 b at))))) None) None) None)
       go false whole low more e f = tt
       go true false low more e f = tt
       go true true false more e f = tt
@@ -130,25 +123,29 @@ module _ (n : ℕ) (b : Bytes) (at : ℕ) where
         is-id = refl;
       })
         where
-          both : (more : Bool) → Taken n b at (word16 b (at + 2)) (at + size) → TakenOf n b at (pick more (More (word16 b (at + 2)) (at + size)) (Last (word16 b (at + 2)) (at + size) (flag 0x0100 (word16 b at))))
+          both : (more : Bool) → Taken n b at (word16 b (at + 2)) (at + size) → TakenOf n b at (pick more (Some (More (word16 b (at + 2)) (at + size))) (Some (Last (word16 b (at + 2)) (at + size) (flag 0x0100 (word16 b at)))))
           both true t = t
           both false t = t
 
-  pub taken_more : {id next : ℕ} → component_at n b at ≡ More id next → Taken n b at id next
+  pub taken_more : {id next : ℕ} → component_at n b at ≡ Some (More id next) → Taken n b at id next
   taken_more e = subst (TakenOf n b at) e taken
 
-  pub taken-last : {id next : ℕ} {keep : Bool} → component_at n b at ≡ Last id next keep → Taken n b at id next
+  pub taken-last : {id next : ℕ} {keep : Bool} → component_at n b at ≡ Some (Last id next keep) → Taken n b at id next
   taken-last e = subst (TakenOf n b at) e taken
 
-  pub rest_bad : component_at n b at ≡ Bad → rest n b at ≡ refuse 3
+  pub taken_low : (c : Component) → component_at n b at ≡ Some c → component_id c < n
+  taken_low (More id next) e = (taken_more e).low
+  taken_low (Last id next keep) e = (taken-last e).low
+
+  pub rest_bad : component_at n b at ≡ None → rest n b at ≡ refuse 3
   unfolding follow
   rest_bad e = rest-follow n b at ∙ ap (follow n b at) e
 
-  pub rest_more : {id next : ℕ} → component_at n b at ≡ More id next → rest n b at ≡ map_res (before (part b at (next - at))) (rest n b next)
+  pub rest_more : {id next : ℕ} → component_at n b at ≡ Some (More id next) → rest n b at ≡ map_res (before (part b at (next - at))) (rest n b next)
   unfolding follow
   rest_more e = rest-follow n b at ∙ ap (follow n b at) e
 
-  pub rest-last : {id next : ℕ} {keep : Bool} → component_at n b at ≡ Last id next keep
+  pub rest-last : {id next : ℕ} {keep : Bool} → component_at n b at ≡ Some (Last id next keep)
       → rest n b at ≡ ok (part b at (next - at) ∷ [], pick keep (drop next b) [])
   unfolding follow
   rest-last e = rest-follow n b at ∙ ap (follow n b at) e
@@ -161,11 +158,11 @@ module _ (n : ℕ) (b : Bytes) (at : ℕ) where
   taken-length {next = next} t = length_part b at (next - at) (omega arith)
 
   -- the ids from a place on
-  pub ids_bad : component_at n b at ≡ Bad → ids_from n b at ≡ refuse 3
+  pub ids_bad : component_at n b at ≡ None → ids_from n b at ≡ refuse 3
   unfolding ids_from
   ids_bad e = ap (λ m. map_res (λ (r : Records). map id_of r.0) m) (rest_bad e)
 
-  pub ids_more : {id next : ℕ} → component_at n b at ≡ More id next → ids_from n b at ≡ map_res (λ (l : List ℕ). id ∷ l) (ids_from n b next)
+  pub ids_more : {id next : ℕ} → component_at n b at ≡ Some (More id next) → ids_from n b at ≡ map_res (λ (l : List ℕ). id ∷ l) (ids_from n b next)
   unfolding ids_from
   ids_more {id = id} {next = next} e =
       ap (λ m. map_res (λ (r : Records). map id_of r.0) m) (rest_more e)
@@ -173,16 +170,16 @@ module _ (n : ℕ) (b : Bytes) (at : ℕ) where
       ∙ ap (λ (x : ℕ). map_res (λ (r : Records). x ∷ map id_of r.0) (rest n b next)) (taken-id (taken_more e))
       ∙ sym (map-map (λ (r : Records). map id_of r.0) (λ (l : List ℕ). id ∷ l) (rest n b next))
 
-  pub ids-last : {id next : ℕ} {keep : Bool} → component_at n b at ≡ Last id next keep → ids_from n b at ≡ ok (id ∷ [])
+  pub ids-last : {id next : ℕ} {keep : Bool} → component_at n b at ≡ Some (Last id next keep) → ids_from n b at ≡ ok (id ∷ [])
   unfolding ids_from
   ids-last e = ap (λ m. map_res (λ (r : Records). map id_of r.0) m) (rest-last e) ∙ ap (λ (x : ℕ). ok (x ∷ [])) (taken-id (taken-last e))
 
   -- where the kept bytes end, from a place on
-  pub end_bad : component_at n b at ≡ Bad → end_from n b at ≡ refuse 3
+  pub end_bad : component_at n b at ≡ None → end_from n b at ≡ refuse 3
   unfolding end_from
   end_bad e = ap (λ m. map_res (λ (r : Records). at + length (concat r.0 ++ r.1)) m) (rest_bad e)
 
-  pub end_more : {id next : ℕ} → component_at n b at ≡ More id next → end_from n b at ≡ end_from n b next
+  pub end_more : {id next : ℕ} → component_at n b at ≡ Some (More id next) → end_from n b at ≡ end_from n b next
   unfolding end_from
   end_more {id = id} {next = next} e =
       ap (λ m. map_res (λ (r : Records). at + length (concat r.0 ++ r.1)) m) (rest_more e) ∙ go (rest n b next)
@@ -197,7 +194,7 @@ module _ (n : ℕ) (b : Bytes) (at : ℕ) where
           let grown : at + length ((part b at (next - at) ++ concat r.0) ++ r.1) ≡ next + length (concat r.0 ++ r.1) = simp (length-append, taken-length t) (omega (arith, t.ahead)) in
           ap ok grown
 
-  pub end_last : {id next : ℕ} {keep : Bool} → component_at n b at ≡ Last id next keep → end_from n b at ≡ ok (pick keep (length b) next)
+  pub end_last : {id next : ℕ} {keep : Bool} → component_at n b at ≡ Some (Last id next keep) → end_from n b at ≡ ok (pick keep (length b) next)
   unfolding end_from
   end_last {id = id} {next = next} {keep = keep} e =
       ap (λ m. map_res (λ (r : Records). at + length (concat r.0 ++ r.1)) m) (rest-last e) ∙ ap ok (go keep)

@@ -6,6 +6,8 @@ ghost use Rattle.model.specs.Call.{Promise};
 ghost use Rattle.subset.specs.Calls.{lent};
 ghost use Rattle.pitavele_c.specs.Reports.{reported};
 
+use answer::CutError;
+
 // Refusal 0 is success: `count` glyphs in a file of `length` bytes. With refusal 6 `length` is the length needed.
 #[repr(C)]
 #[derive(Clone, Copy)]
@@ -25,22 +27,21 @@ pub extern "C" fn pitavele_subset(
 ) -> Answer
     ensures { Promise (lent font.now index ids.now scratch.old out.old) (reported result) out.new scratch.new }
 {
-    let a = subset::subset(font, index, ids, scratch, out);
-    match a {
-        answer::Answer::Font { kept, length } => Answer {
+    match subset::subset(font, index, ids, scratch, out) {
+        Ok(cut) => Answer {
             refusal: 0,
-            count: kept as u32,
-            length: length as u64,
+            count: cut.kept as u32,
+            length: cut.length as u64,
         },
-        answer::Answer::No(k) => Answer {
-            refusal: k,
+        Err(CutError::Refused(refusal)) => Answer {
+            refusal: refusal.number(),
             count: 0,
             length: 0,
         },
-        answer::Answer::Short(length) => Answer {
+        Err(CutError::OutputTooShort { needed }) => Answer {
             refusal: 6,
             count: 0,
-            length: length as u64,
+            length: needed as u64,
         },
     }
 }

@@ -1,5 +1,6 @@
 -- What the places mean: the tables' contents, as parts of the font.
-use Rattle.std.specs.Prelude.{false, List, [], ◌∷◌, ℕ, ◌+◌, ◌≤◌, ◌<◌, length, get_or, replicate}
+use Rattle.std.specs.Prelude.{Bool, None, is_some, List, [], ◌∷◌, ℕ, ◌+◌, ◌≤◌, ◌<◌, length, get_or, replicate}
+use Rattle.std.specs.Option.{unwrap_or}
 use Rattle.std.proofs.Math.Option.{Option, none, some}
 use Rattle.model.specs.Res.{pick}
 use Rattle.model.specs.Bytes.{Bytes, part}
@@ -11,18 +12,22 @@ use Rattle.places.specs.declared.Tables.{Tables as Places}
 abbrev pub tag_words : List ℕ
 tag_words = CVT ∷ FPGM ∷ GLYF ∷ HEAD ∷ HHEA ∷ HMTX ∷ LOCA ∷ MAXP ∷ NAME ∷ POST ∷ PREP ∷ []
 
+-- where table number k stands, at 0 with no length if it is missing; and whether it is there
 abbrev pub missing : Place
-missing = record { offset = 0; length = 0; present = false }
+missing = record { offset = 0; length = 0 }
 
 abbrev pub place_at : Places → ℕ → Place
-place_at t k = get_or t.places k missing
+place_at t k = unwrap_or (get_or t.places k None) missing
 
--- the contents of table number k, and whether it is there
+abbrev pub present_at : Places → ℕ → Bool
+present_at t k = is_some (get_or t.places k None)
+
+-- the contents of table number k, and those of one that may be missing
 unfoldable pub content_at : Bytes → Places → ℕ → Bytes
 content_at font t k = part font (place_at t k).offset (place_at t k).length
 
 unfoldable pub option_at : Bytes → Places → ℕ → Option Bytes
-option_at font t k = pick (place_at t k).present (some (content_at font t k)) none
+option_at font t k = pick (present_at t k) (some (content_at font t k)) none
 
 -- the tables that the places give
 unfoldable pub contents : Bytes → Places → Tables
@@ -43,7 +48,7 @@ contents font t =
 
 -- no table at all
 abbrev pub nowhere : Places
-nowhere = record { places = replicate 11 missing }
+nowhere = record { places = replicate 11 None }
 
 -- every place lies in the file, and its numbers are 32-bit words
 abbrev pub Within : Bytes → Places → Type 0

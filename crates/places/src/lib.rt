@@ -1,5 +1,5 @@
 // Where the eleven tables stand: types only. The crate's growing list of records is here one struct by value with an array of
-// eleven places in tag order, missing ones marked; every rewriter gets it. A tag is four bytes, compared as an array.
+// eleven places in tag order, missing ones `None`; every rewriter gets it. A tag is four bytes, compared as an array.
 #![tactic(auto)]
 
 // Where a table stands in the file.
@@ -7,13 +7,12 @@
 pub struct Place {
     pub offset: usize,
     pub length: usize,
-    pub present: bool,
 }
 
-// The places of the eleven tables, in tag order.
+// The places of the eleven tables, in tag order; none where a table is missing.
 #[derive(Clone, Copy)]
 pub struct Tables {
-    pub places: [Place; 11],
+    pub places: [Option<Place>; 11],
 }
 
 pub const TAGS: [[u8; 4]; 11] = [

@@ -15,26 +15,27 @@ use Rattle.model.specs.Name.{cut_name}
 use Rattle.model.specs.Post.{cut_post}
 use Rattle.model.specs.Cut.{CutFont, piece_of, new_tables, optional, rewrite}
 use Rattle.model.proofs.Res.{true_false, ok-refuse}
-use Rattle.answer.specs.declared.Size.{Size}
-use Rattle.answer.specs.declared.Size.TheVariants.{Bytes as Sized}
-use Rattle.answer.specs.Answers.{size_of}
+use Rattle.std.specs.Prelude.{Result, Ok, Err}
+use Rattle.answer.specs.declared.Refusal.{Refusal}
+use Rattle.answer.specs.Answers.{number, res_of}
 use Rattle.places.specs.declared.Tables.{Tables as Places}
-use Rattle.places.specs.Places.{place_at, content_at, option_at, contents}
+use Rattle.places.specs.Places.{present_at, content_at, option_at, contents}
 use Rattle.remapper.specs.State.{number_in}
 use Rattle.post.specs.Post.{Indexed, Measured}
 use Rattle.plan.specs.declared.Source.{Source}
 use Rattle.plan.specs.declared.Plan.{Plan}
 use Rattle.plan.specs.Steps.{refusal_of, renewed, there?, bytes_in, length_in}
-use Rattle.plan.specs.Sources.{font_of, Opens, Walked, Kept, PostSized, Found, Planned, after_post, after_name, after_metrics}
+use Rattle.plan.specs.Sources.{font_of, Opens, Walked, Kept, PostSized, Found, Planned, MetricsPassed, NamePassed, after_post, after_name, after_metrics}
+use Rattle.hmtx.specs.Measures.{sizes}
 use Rattle.plan.proofs.Rostered as rostered
 
 -- an absent table's measure, and one that is there
 module _ (font : Bytes) (t : Places) (k : ℕ) (f : Bytes → Res Bytes) where
-  pub absent-size : (place_at t k).present ≡ false → ok 0 ≡ map_res length_in (optional f (option_at font t k))
+  pub absent-size : present_at t k ≡ false → ok 0 ≡ map_res length_in (optional f (option_at font t k))
   unfolding option_at
   absent-size e = rw e
 
-  pub present-size : (place_at t k).present ≡ true → map_res length (f (content_at font t k)) ≡ map_res length_in (optional f (option_at font t k))
+  pub present-size : present_at t k ≡ true → map_res length (f (content_at font t k)) ≡ map_res length_in (optional f (option_at font t k))
   unfolding option_at
   present-size e = rw e (go (f (content_at font t k)))
     where
@@ -66,7 +67,7 @@ module _ (font : Bytes) (s : Source) (before after : List ℕ) (kept : ℕ) (o :
 
 -- post
 module _ (font : Bytes) (t : Places) (n kept : ℕ) (before : List ℕ) where
-  pub post-absent : (place_at t 9).present ≡ false → PostSized (contents font t) n kept before before (Sized 0)
+  pub post-absent : present_at t 9 ≡ false → PostSized (contents font t) n kept before before (Ok 0)
   unfolding contents option_at
   post-absent e =
       record {
@@ -75,7 +76,7 @@ module _ (font : Bytes) (t : Places) (n kept : ℕ) (before : List ℕ) where
         index = λ _ b q. true_false (sym (ap there? (rw e at q)));
       }
 
-  pub post-present : (b after : List ℕ) (r : Size) → (place_at t 9).present ≡ true → b ≡ content_at font t 9 → Measured b before n kept r after → PostSized (contents font t) n kept before after r
+  pub post-present : (b after : List ℕ) (r : Result ℕ Refusal) → present_at t 9 ≡ true → b ≡ content_at font t 9 → Measured b before n kept r after → PostSized (contents font t) n kept before after r
   unfolding contents option_at
   post-present b after r e q m =
       record {
@@ -85,26 +86,29 @@ module _ (font : Bytes) (t : Places) (n kept : ℕ) (before : List ℕ) where
       }
 
 -- a step refuses, or passes and leaves the rest
-module _ {A B : Type 0} (f : A → B) (m : Res A) (rest whole : Res CutFont) (is : whole ≡ (m >> rest)) (t : Tables) (n kept : ℕ) (before after : List ℕ) (p : Plan) where
-  pub planned_refused : (k : ℕ) → refuse k ≡ map_res f m → (p.fits ≡ false) × (p.refusal ≡ k) → Kept t.post n before after → Planned whole t n kept before after p
-  planned_refused k e r u =
+module _ {A B : Type 0} (f : A → B) (m : Res A) (rest whole : Res CutFont) (is : whole ≡ (m >> rest)) (t : Tables) (n kept : ℕ) (before after : List ℕ) where
+  pub planned_refused : (e : Refusal) → refuse (number e) ≡ map_res f m → Kept t.post n before after → Planned whole t n kept before after (Err e)
+  planned_refused e q u =
       record {
-        fits = r.0 ∙ sym (ap is_ok refused);
-        refusal = r.1 ∙ sym (ap refusal_of refused);
-        found = λ h. true_false (sym h ∙ r.0);
+        fits = sym (ap is_ok refused);
+        refusal = sym (ap refusal_of refused);
+        found = λ p h. err-ok h;
         untouched = u;
-        index = λ h. true_false (sym h ∙ r.0);
+        index = λ h. true_false (sym h);
       }
     where
-      go : (m : Res A) → refuse k ≡ map_res f m → (m >> rest) ≡ refuse k
-      go (refuse j) e = ap refuse (sym (ap refusal_of e))
-      go (ok a) e = ok-refuse (sym e)
+      go : (m : Res A) → refuse (number e) ≡ map_res f m → (m >> rest) ≡ refuse (number e)
+      go (refuse j) q = ap refuse (sym (ap refusal_of q))
+      go (ok a) q = ok-refuse (sym q)
 
-      refused : whole ≡ refuse k
-      refused = is ∙ go m e
+      refused : whole ≡ refuse (number e)
+      refused = is ∙ go m q
 
-  pub planned_passed : (b : B) → ok b ≡ map_res f m → Planned rest t n kept before after p → Planned whole t n kept before after p
-  planned_passed b e q = subst (λ (w : Res CutFont). Planned w t n kept before after p) (sym (is ∙ go m e)) q
+      err-ok : {C : Type 0} {p : Plan} → Err e ≡ Ok p → C
+      err-ok h = ok-refuse (sym (ap res_of h))
+
+  pub planned_passed : (b : B) → ok b ≡ map_res f m → (p : Result Plan Refusal) → Planned rest t n kept before after p → Planned whole t n kept before after p
+  planned_passed b e p q = subst (λ (w : Res CutFont). Planned w t n kept before after p) (sym (is ∙ go m e)) q
     where
       go : (m : Res A) → ok b ≡ map_res f m → (m >> rest) ≡ rest
       go (refuse j) e = ok-refuse e
@@ -149,18 +153,52 @@ rewrite-made t r e h =
     let c = rest_of (optional (λ b. cut_post b r) t.post) (after_post t r) b.1 in
     six ∙ a.0 ∙ b.0 ∙ c.0
 
--- all have passed
-pub planned_found : (t : Tables) (n kept : ℕ) (before after : List ℕ) (p : Plan) (size : Size) (post : ℕ)
-    → PostSized t n kept before after size → size_of size ≡ ok post → (p.fits ≡ true) × (p.refusal ≡ 0) × Found t (take kept before) p
-    → Planned (after_name t (take kept before)) t n kept before after p
-unfolding after_post
-planned_found t n kept before after p size post z q f =
-    planned_passed length_in (optional (λ b. cut_post b (take kept before)) t.post) (after_post t (take kept before)) (after_name t (take kept before))
-    (post-step t (take kept before)) t n kept before after p post (sym q ∙ z.size)
-    (record {
-      fits = f.0;
-      refusal = f.1;
-      found = λ _. f.2;
-      untouched = z.untouched;
-      index = λ _. z.index (ap is_ok q);
-    })
+-- the three steps, of a roster whose outlines were read
+module _ (font : Bytes) (s : Source) (before : List ℕ) (kept : ℕ) (o : Opens font s) (w : Walked font s before kept) where
+  abbrev t : Tables
+  t = font_of font s
+
+  abbrev r : List ℕ
+  r = take kept before
+
+  after-six : rewrite t r ≡ (metrics t.hhea t.hmtx r >> after_metrics t r)
+  after-six = metrics-step t r (rostered.pieces-fine font s before kept o w)
+
+  pub metrics_refused : (e : Refusal) → refuse (number e) ≡ map_res sizes (metrics t.hhea t.hmtx r) → Planned (rewrite t r) t s.n kept before before (Err e)
+  metrics_refused e q = planned_refused sizes (metrics t.hhea t.hmtx r) (after_metrics t r) (rewrite t r) after-six t s.n kept before before e q (kept-all t.post s.n before)
+
+  module _ (count hmtx : ℕ) (metric : MetricsPassed t r count hmtx) where
+    metrics_passed : (after : List ℕ) (p : Result Plan Refusal) → Planned (after_metrics t r) t s.n kept before after p → Planned (rewrite t r) t s.n kept before after p
+    metrics_passed after p v = planned_passed sizes (metrics t.hhea t.hmtx r) (after_metrics t r) (rewrite t r) after-six t s.n kept before after (count, hmtx) metric p v
+
+    pub name_refused : (e : Refusal) → refuse (number e) ≡ map_res length_in (optional cut_name t.name) → Planned (rewrite t r) t s.n kept before before (Err e)
+    name_refused e q =
+        metrics_passed before (Err e)
+        (planned_refused length_in (optional cut_name t.name) (after_name t r) (after_metrics t r) (name-step t r) t s.n kept before before e q (kept-all t.post s.n before))
+
+    module _ (name : ℕ) (named : NamePassed t name) (after : List ℕ) where
+      name_passed : (p : Result Plan Refusal) → Planned (after_name t r) t s.n kept before after p → Planned (rewrite t r) t s.n kept before after p
+      name_passed p v =
+          metrics_passed after p (planned_passed length_in (optional cut_name t.name) (after_name t r) (after_metrics t r) (name-step t r) t s.n kept before after name named p v)
+
+      pub post_refused : (e : Refusal) → PostSized t s.n kept before after (Err e) → Planned (rewrite t r) t s.n kept before after (Err e)
+      post_refused e z =
+          name_passed (Err e)
+          (planned_refused length_in (optional (λ b. cut_post b r) t.post) (after_post t r) (after_name t r) (post-step t r) t s.n kept before after e z.size z.untouched)
+
+      pub all_passed : (post : ℕ) → PostSized t s.n kept before after (Ok post) → (p : Plan) → Found t r p → Planned (rewrite t r) t s.n kept before after (Ok p)
+      unfolding after_post
+      all_passed post z p f =
+          name_passed (Ok p)
+          (planned_passed length_in (optional (λ b. cut_post b r) t.post) (after_post t r) (after_name t r) (post-step t r) t s.n kept before after post z.size (Ok p)
+          (record {
+            fits = refl;
+            refusal = refl;
+            found = λ q h. subst (Found t r) (ap the_plan h) f;
+            untouched = z.untouched;
+            index = λ _. z.index refl;
+          }))
+        where
+          the_plan : Result Plan Refusal → Plan
+          the_plan (Ok q) = q
+          the_plan (Err e) = p

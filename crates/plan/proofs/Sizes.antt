@@ -1,6 +1,6 @@
 -- The places with the new lengths are those of the new tables, one by one: each new table's length is what its measure found, or the old one's.
 use mathlib.Core.Path.{◌≡◌, refl, sym, ap, ap₂, ◌∙◌, subst}
-use mathlib.Core.Bool.{Bool, true}
+use mathlib.Core.Bool.{Bool, true, false}
 use mathlib.Core.Option.{Option, none, some}
 use mathlib.Core.List.{List, [], ◌∷◌, map}
 use Prim.Native.Nat.{ℕ, zero, suc, ◌+◌, ◌*◌, ◌≤◌, ◌<◌}
@@ -17,9 +17,11 @@ use Rattle.model.specs.Cut.{count, piece_of, new_maxp, optional}
 use Rattle.model.proofs.Res.{true_false, ok-refuse, ok_inj}
 use Rattle.model.proofs.Members.{by}
 use Rattle.model.proofs.Bytes.{length-put}
+use Rattle.std.specs.Prelude.{Option as Maybe, None, is_some}
+use Rattle.std.specs.Option.{unwrap_or}
 use Rattle.places.specs.declared.Place.{Place}
 use Rattle.places.specs.declared.Tables.{Tables as Places}
-use Rattle.places.specs.Places.{missing, place_at, content_at, option_at, contents, Within}
+use Rattle.places.specs.Places.{missing, place_at, present_at, content_at, option_at, contents, Within}
 use Rattle.face.proofs.Gather.{length-content}
 use Rattle.hmtx.specs.Measures.{metrics_of}
 use Rattle.hmtx.proofs.Step.{Fits, measured-fits}
@@ -35,24 +37,26 @@ use Rattle.plan.specs.Steps.{renewed, there?, length_in, tables_of, Sized, sized
 use Rattle.plan.specs.Sources.{font_of, Opens, Walked, OutlinesAdded, MetricsPassed, NamePassed, PostPassed, Found}
 use Rattle.plan.proofs.Rostered as rostered
 
--- a place has the presence and the length of a table that may be there
-pub record Fit (p : Place) (o : Option Bytes) : Type 0 where
-  pub present : p.present ≡ there? o
-  pub length : p.length ≡ length_in o
+-- a place, or none, has the presence and the length of a table that may be there
+pub record Fit (p : Maybe Place) (o : Option Bytes) : Type 0 where
+  pub present : is_some p ≡ there? o
+  pub length : (unwrap_or p missing).length ≡ length_in o
 
 pub fit_place : (b : Bool) (l : ℕ) (o : Option Bytes) → b ≡ there? o → (there? o ≡ true → l ≡ length_in o) → Fit (sized_place b l) o
 unfolding sized_place
-fit_place b l none e f = record { present = e; length = ap (λ (b : Bool). pick b l 0) e }
-fit_place b l (some c) e f = record { present = e; length = ap (λ (b : Bool). pick b l 0) e ∙ f refl }
+fit_place true l none e f = true_false e
+fit_place false l none e f = record { present = refl; length = refl }
+fit_place true l (some c) e f = record { present = refl; length = f refl }
+fit_place false l (some c) e f = true_false (sym e)
 
 -- the eleven, one after the other
-abbrev Fits-all : List Place → List (Option Bytes) → Type 0
+abbrev Fits-all : List (Maybe Place) → List (Option Bytes) → Type 0
 Fits-all [] [] = Unit {0}
 Fits-all [] (o ∷ os) = ⊥
 Fits-all (p ∷ ps) [] = ⊥
 Fits-all (p ∷ ps) (o ∷ os) = Fit p o × Fits-all ps os
 
-fit_at : (ps : List Place) (os : List (Option Bytes)) → Fits-all ps os → (k : ℕ) → k < length os → Fit (get_or ps k missing) (get_or os k none)
+fit_at : (ps : List (Maybe Place)) (os : List (Option Bytes)) → Fits-all ps os → (k : ℕ) → k < length os → Fit (get_or ps k None) (get_or os k none)
 fit_at [] [] f k h = absurd (omega arith)
 fit_at [] (o ∷ os) f k h = absurd f
 fit_at (p ∷ ps) [] f k h = absurd f
@@ -61,20 +65,20 @@ fit_at (p ∷ ps) (o ∷ os) f (suc k) h = fit_at ps os f.1 k (omega arith)
 
 -- a table that is copied
 module _ (font : Bytes) (t : Places) (w : Within font t) (k : ℕ) (h : k < 11) where
-  there-at : (place_at t k).present ≡ there? (option_at font t k)
+  there-at : present_at t k ≡ there? (option_at font t k)
   unfolding option_at
-  there-at = by (place_at t k).present (λ e. rw e) (λ e. rw e)
+  there-at = by (present_at t k) (λ e. rw e) (λ e. rw e)
 
-  copied : Fit (sized_place (place_at t k).present (place_at t k).length) (option_at font t k)
+  copied : Fit (sized_place (present_at t k) (place_at t k).length) (option_at font t k)
   unfolding option_at
   copied =
-      fit_place (place_at t k).present (place_at t k).length (option_at font t k) there-at
-      (λ f. by (place_at t k).present (λ e. rw e (sym (length-content font t w k h))) (λ e. true_false (sym f ∙ sym there-at ∙ e)))
+      fit_place (present_at t k) (place_at t k).length (option_at font t k) there-at
+      (λ f. by (present_at t k) (λ e. rw e (sym (length-content font t w k h))) (λ e. true_false (sym f ∙ sym there-at ∙ e)))
 
   -- one that is cut, if it is there
   cut : (f : Bytes → Res Bytes) (l : ℕ) → ok l ≡ map_res length_in (optional f (option_at font t k))
-      → Fit (sized_place (place_at t k).present l) (value_of none (optional f (option_at font t k)))
-  cut f l e = let g = go (option_at font t k) e in fit_place (place_at t k).present l (value_of none (optional f (option_at font t k))) (there-at ∙ g.0) (λ _. g.1)
+      → Fit (sized_place (present_at t k) l) (value_of none (optional f (option_at font t k)))
+  cut f l e = let g = go (option_at font t k) e in fit_place (present_at t k) l (value_of none (optional f (option_at font t k))) (there-at ∙ g.0) (λ _. g.1)
     where
       value : (m : Res Bytes) → ok l ≡ map_res length_in (m >>= λ c. ok (some c))
           → (true ≡ there? (value_of none (m >>= λ c. ok (some c)))) × (l ≡ length_in (value_of none (m >>= λ c. ok (some c))))
@@ -180,7 +184,7 @@ module _ (font : Bytes) (s : Source) (scratch : List ℕ) (kept : ℕ) (o : Open
       ),
     )
       where
-        copy : (k : ℕ) → k < 11 → Fit (sized_place (place_at s.tables k).present (place_at s.tables k).length) (option_at font s.tables k)
+        copy : (k : ℕ) → k < 11 → Fit (sized_place (present_at s.tables k) (place_at s.tables k).length) (option_at font s.tables k)
         copy = copied font s.tables o.within
 
         old : (k : ℕ) → k < 11 → (place_at s.tables k).length ≡ length (content_at font s.tables k)
@@ -191,14 +195,11 @@ module _ (font : Bytes) (s : Source) (scratch : List ℕ) (kept : ℕ) (o : Open
         let f = fit_at (sized_by s.tables (pick wide z.raw z.even) hmtx (entry_size (width wide) * (kept + 1)) name post).places (tables_of (renewed (font_of font s) (take kept scratch))) all_fit k h in
         (f.present, f.length)
 
-    pub found : (p : Plan) → p ≡ plan_of s.tables kept z count hmtx name post → (p.fits ≡ true) × (p.refusal ≡ 0) × Found (font_of font s) (take kept scratch) p
+    pub found : (p : Plan) → p ≡ plan_of s.tables kept z count hmtx name post → Found (font_of font s) (take kept scratch) p
     unfolding plan_of
-    found p e = (
-      ap (λ (p : Plan). p.fits) e,
-      ap (λ (p : Plan). p.refusal) e,
-      record {
-        sized = subst (Sized (renewed (font_of font s) (take kept scratch))) (sym (ap (λ (p : Plan). p.sized) e)) sized;
-        counted = ap (λ (p : Plan). p.count) e ∙ fits.is-count;
-        width = ap (λ (p : Plan). width p.wide) e ∙ new-width;
-      },
-    )
+    found p e =
+        record {
+          sized = subst (Sized (renewed (font_of font s) (take kept scratch))) (sym (ap (λ (p : Plan). p.sized) e)) sized;
+          counted = ap (λ (p : Plan). p.count) e ∙ fits.is-count;
+          width = ap (λ (p : Plan). width p.wide) e ∙ new-width;
+        }

@@ -1,5 +1,5 @@
 -- What the public call knows of its font on the way: opened, walked, measured.
-use Rattle.std.specs.Prelude.{◌≡◌, true, List, [], ℕ, ◌+◌, ◌*◌, ◌≤◌, ◌<◌, length, get_or, take, drop}
+use Rattle.std.specs.Prelude.{◌≡◌, Result, Ok, true, List, [], ℕ, ◌+◌, ◌*◌, ◌≤◌, ◌<◌, length, get_or, take, drop}
 use Rattle.std.proofs.Math.Option.{Option, none, some}
 use Rattle.model.specs.Res.{Res, ok, each, map_res, is_ok, value_of, ◌>>◌}
 use Rattle.model.specs.Bytes.{Bytes, word32, place}
@@ -9,8 +9,8 @@ use Rattle.model.specs.Metrics.{metrics, new_count}
 use Rattle.model.specs.Name.{cut_name}
 use Rattle.model.specs.Post.{cut_post}
 use Rattle.model.specs.Cut.{CutFont, count, closure, piece_of, optional}
-use Rattle.answer.specs.declared.Size.{Size}
-use Rattle.answer.specs.Answers.{size_of}
+use Rattle.answer.specs.declared.Refusal.{Refusal}
+use Rattle.answer.specs.Answers.{res_of}
 use Rattle.places.specs.Places.{contents, Within}
 use Rattle.remapper.specs.State.{number_in}
 use Rattle.hmtx.specs.Measures.{sizes}
@@ -63,10 +63,10 @@ pub record Kept (post : Option Bytes) (n : ℕ) (before after : List ℕ) : Type
   pub same : Unnamed post → after ≡ before
 
 -- post is measured: its size or the refusal, and its names' places in the scratch
-pub record PostSized (t : Tables) (n kept : ℕ) (before after : List ℕ) (r : Size) : Type 0 where
-  pub size : size_of r ≡ map_res length_in (optional (λ b. cut_post b (take kept before)) t.post)
+pub record PostSized (t : Tables) (n kept : ℕ) (before after : List ℕ) (r : Result ℕ Refusal) : Type 0 where
+  pub size : res_of r ≡ map_res length_in (optional (λ b. cut_post b (take kept before)) t.post)
   pub untouched : Kept t.post n before after
-  pub index : is_ok (size_of r) ≡ true → (b : Bytes) → t.post ≡ some b → Indexed b after n kept
+  pub index : is_ok (res_of r) ≡ true → (b : Bytes) → t.post ≡ some b → Indexed b after n kept
 
 -- what is left of steps 6 to 8 after each
 unfoldable pub after_post : Tables → List ℕ → Res CutFont
@@ -84,13 +84,13 @@ pub record Found (t : Tables) (r : List ℕ) (p : Plan) : Type 0 where
   pub counted : p.count ≡ new_count (value_of [] (metrics t.hhea t.hmtx r))
   pub width : width p.wide ≡ new_width (size (value_of [] (each (piece_of t (place r)) r)))
 
--- a plan for what is left, m, of steps 6 to 8
-pub record Planned (m : Res CutFont) (t : Tables) (n kept : ℕ) (before after : List ℕ) (p : Plan) : Type 0 where
-  pub fits : p.fits ≡ is_ok m
-  pub refusal : p.refusal ≡ refusal_of m
-  pub found : p.fits ≡ true → Found t (take kept before) p
+-- a plan for what is left, m, of steps 6 to 8, or m's refusal
+pub record Planned (m : Res CutFont) (t : Tables) (n kept : ℕ) (before after : List ℕ) (p : Result Plan Refusal) : Type 0 where
+  pub fits : is_ok (res_of p) ≡ is_ok m
+  pub refusal : refusal_of (res_of p) ≡ refusal_of m
+  pub found : (q : Plan) → p ≡ Ok q → Found t (take kept before) q
   pub untouched : Kept t.post n before after
-  pub index : p.fits ≡ true → (b : Bytes) → t.post ≡ some b → Indexed b after n kept
+  pub index : is_ok (res_of p) ≡ true → (b : Bytes) → t.post ≡ some b → Indexed b after n kept
 
 -- steps 6 and 7 and 8 have passed, with these sizes
 abbrev pub MetricsPassed : Tables → List ℕ → ℕ → ℕ → Type 0

@@ -1,5 +1,6 @@
 -- The public call's steps, as the code takes them: the measures and the tables they size, the writers, and what is left to do after each.
 use Rattle.std.specs.Prelude.{◌≡◌, Bool, true, false, List, [], ◌∷◌, ℕ, ◌+◌, ◌*◌, ◌<◌, leb, ltb, length, get_or}
+use Rattle.std.specs.Prelude.{Option as Maybe, Some, None}
 use Rattle.std.proofs.Math.Option.{Option, none, some}
 use Rattle.model.specs.Res.{Res, refuse, ok, pick, each, need, value_of, ◌>>=◌, ◌>>◌}
 use Rattle.model.specs.Bytes.{Bytes, place}
@@ -13,7 +14,7 @@ use Rattle.model.specs.Cut.{CutFont, piece_of, new_tables, optional}
 use Rattle.model.specs.Call.{Input, Made}
 use Rattle.places.specs.declared.Place.{Place}
 use Rattle.places.specs.declared.Tables.{Tables as Places}
-use Rattle.places.specs.Places.{place_at}
+use Rattle.places.specs.Places.{place_at, present_at}
 use Rattle.plan.specs.declared.Sums.{Sums}
 use Rattle.plan.specs.declared.Plan.{Plan}
 
@@ -52,32 +53,32 @@ bytes_in (some b) = b
 -- the places have the tables' lengths
 abbrev pub Sized : Tables → Places → Type 0
 Sized t s = (k : ℕ) → k < 11
-    → ((place_at s k).present ≡ there? (get_or (tables_of t) k none)) × ((place_at s k).length ≡ length (bytes_in (get_or (tables_of t) k none)))
+    → (present_at s k ≡ there? (get_or (tables_of t) k none)) × ((place_at s k).length ≡ length (bytes_in (get_or (tables_of t) k none)))
 
 -- a table's length; an absent one's is 0
 abbrev pub length_in : Option Bytes → ℕ
 length_in o = length (bytes_in o)
 
 -- a table's new length, if it is there; where it will stand is not known yet
-unfoldable pub sized_place : Bool → ℕ → Place
-sized_place present l = record { offset = 0; length = pick present l 0; present = present }
+unfoldable pub sized_place : Bool → ℕ → Maybe Place
+sized_place there l = pick there (Some (record { offset = 0; length = l })) None
 
 -- every table's new length: those of glyf, hmtx, loca, name and post change
 unfoldable pub sized_by : Places → ℕ → ℕ → ℕ → ℕ → ℕ → Places
 sized_by t glyf hmtx loca name post =
     record {
       places =
-          sized_place (place_at t 0).present (place_at t 0).length
-          ∷ sized_place (place_at t 1).present (place_at t 1).length
+          sized_place (present_at t 0) (place_at t 0).length
+          ∷ sized_place (present_at t 1) (place_at t 1).length
           ∷ sized_place true glyf
           ∷ sized_place true (place_at t 3).length
           ∷ sized_place true (place_at t 4).length
           ∷ sized_place true hmtx
           ∷ sized_place true loca
           ∷ sized_place true (place_at t 7).length
-          ∷ sized_place (place_at t 8).present name
-          ∷ sized_place (place_at t 9).present post
-          ∷ sized_place (place_at t 10).present (place_at t 10).length
+          ∷ sized_place (present_at t 8) name
+          ∷ sized_place (present_at t 9) post
+          ∷ sized_place (present_at t 10) (place_at t 10).length
           ∷ [];
     }
 
@@ -86,8 +87,6 @@ unfoldable pub plan_of : Places → ℕ → Sums → ℕ → ℕ → ℕ → ℕ
 plan_of t kept sums count hmtx name post =
     let long = ltb 131070 sums.even in
     record {
-      fits = true;
-      refusal = 0;
       count = count;
       wide = long;
       sized = sized_by t (pick long sums.raw sums.even) hmtx (entry_size (width long) * (kept + 1)) name post;

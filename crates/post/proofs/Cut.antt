@@ -13,7 +13,10 @@ use Rattle.model.specs.Post.{names_of, post_index, new_indexes, new_names, new_p
 use Rattle.model.proofs.Res.{need-ok, bind_ok, pick_true, pick_false, need_inv, bind_inv, each_inv, each-known, map_inv, ok_inj, ok-refuse}
 use Rattle.model.proofs.Post.{length-new_indexes, concat-map, new_names-bytes, under_all, each-refuses}
 use Rattle.post.specs.Post.{index_of, stored_names, name_bytes, index_bytes, head_bytes, post_bytes, Named, Answered}
-use Rattle.post.specs.declared.Asked.TheVariants.{Missing, Names}
+use Rattle.std.specs.Prelude.{Ok, Err}
+use Rattle.answer.specs.declared.Refusal.{Refusal}
+use Rattle.answer.specs.Answers.{number}
+use Rattle.post.specs.declared.Asked.{Asked}
 use Rattle.model.proofs.Members.{by}
 
 -- an index is there, or it is not
@@ -73,8 +76,8 @@ module _ (b : Bytes) (ids : List ℕ) where
             (need-ok 3 (holds b 0 34) _ (le-leb 34 (length b) (omega arith))
             (need-ok 3 (holds b 34 (2 * word16 b 32)) _ (le-leb (34 + 2 * word16 b 32) (length b) a) refl)))
 
-        pub cut-missing : each (post_index b) ids ≡ refuse 3 → cut_post b ids ≡ refuse 3
-        cut-missing e = cut-after ∙ rw e
+        pub cut-missing : (k : ℕ) → each (post_index b) ids ≡ refuse k → cut_post b ids ≡ refuse k
+        cut-missing k e = cut-after ∙ rw e
 
         module _ (is : List ℕ) (e : each (post_index b) ids ≡ ok is) where
           pub cut-many : 65535 < 257 + length (new_names (names_of b) is) → cut_post b ids ≡ refuse 5
@@ -149,18 +152,18 @@ map-refused (refuse j) f k e = cc
 map-refused (ok a) f k e = ok-refuse (sym e)
 
 module _ (b : Bytes) (ids : List ℕ) (v : word32 b 0 ≡ 0x00020000) (a : 34 + 2 * word16 b 32 ≤ length b) where
-  pub told_missing : Answered b ids Missing → cut_post b ids ≡ refuse 3
-  told_missing t = cut-missing b ids (omega arith) v a (map-refused (each (post_index b) ids) _ 3 t.own)
+  pub told_missing : (e : Refusal) → Answered b ids (Err e) → cut_post b ids ≡ refuse (number e)
+  told_missing e t = cut-missing b ids (omega arith) v a (number e) (map-refused (each (post_index b) ids) _ (number e) t.own)
 
-  module _ (own want : ℕ) (t : Answered b ids (Names own want)) where
-    pub told-many : 65278 < own → cut_post b ids ≡ refuse 5
+  module _ (s : Asked) (t : Answered b ids (Ok s)) where
+    pub told-many : 65278 < s.own → cut_post b ids ≡ refuse 5
     told-many h =
-        let m = map_inv (λ is. length (new_names (names_of b) is)) (each (post_index b) ids) own (sym t.own) in
+        let m = map_inv (λ is. length (new_names (names_of b) is)) (each (post_index b) ids) s.own (sym t.own) in
         cut-many b ids (omega arith) v a m.0 m.1 (omega (arith, m.2))
 
-    pub told_named : own ≤ 65278 → Named b ids × (want ≤ 65278)
+    pub told_named : s.own ≤ 65278 → Named b ids × (s.want ≤ 65278)
     told_named h =
-        let m = map_inv (λ is. length (new_names (names_of b) is)) (each (post_index b) ids) own (sym t.own) in
+        let m = map_inv (λ is. length (new_names (names_of b) is)) (each (post_index b) ids) s.own (sym t.own) in
         (named-each b ids m.0 v a m.1 (omega (arith, m.2)), t.small)
 
 -- what is written, of a table that passed

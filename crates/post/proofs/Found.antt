@@ -4,12 +4,14 @@ use mathlib.Core.Bool.{Bool, true, false}
 use mathlib.Core.List.{List, flat_map}
 use Prim.Native.Nat.{ℕ, ◌+◌, ◌*◌, ◌-◌, ◌%◌, ◌/◌, ◌≤◌, ◌<◌}
 use native.Mathlib.Omega.{arith}
-use lib.Dec.{ltb, leb, eqb}
+use lib.Dec.{ltb, leb}
 use lib.ListN.{length, take, drop, get_or, set, length-take, length-drop}
 use lib.Seq.{take-take, get_or-take, get_or-drop, ext_get_or, take-set-le, drop-set-lt, length-take-le, take_at, drop_at, drop-drop}
+use Rattle.std.specs.Prelude.{Option, Some, None}
+use Rattle.std.specs.Borrow.{Bor}
 use borrow.Author.Tests.{ltb-true, ltb-false, leb-true}
 use borrow.Rule.Slice.PartMut.{put_mid, take_put, drop_put, same_len_mid}
-use Rattle.model.specs.Res.{pick, either}
+use Rattle.model.specs.Res.{either}
 use Rattle.model.specs.Bytes.{Bytes, part}
 use Rattle.model.proofs.Members.{by}
 use Rattle.model.proofs.Res.{true_false}
@@ -48,10 +50,9 @@ module _ (n at : ℕ) (s t : List ℕ) (x : Behind n at s t) where
       let q : i < k = omega (arith, length-take k (drop a t)) in
       get_or-take k (drop a t) i 0 q ∙ get_or-drop a t i 0 ∙ behind-number (a + i) (omega arith) ∙ sym (get_or-drop a s i 0) ∙ sym (get_or-take k (drop a s) i 0 q))
 
-  pub index_stays : (own : List ℕ) → n ≤ at → index_for own t n at ≡ index_for own s n at
-  unfolding index_for
-  index_stays own h =
-      ap (λ (r : List ℕ). pick (eqb (length own) 0) r own) (behind-part (2 * n) (2 * at - 2 * n) (omega arith))
+  pub index_stays : (own : Option (Bor (List ℕ))) → n ≤ at → index_for own t n at ≡ index_for own s n at
+  index_stays None h = behind-part (2 * n) (2 * at - 2 * n) (omega arith)
+  index_stays (Some own) h = refl
 
 -- a place put away, or none
 pub put-none : (b : Bytes) (n at j p : ℕ) (s : List ℕ) → 2 * n ≤ at → PutAway b n at j p s s

@@ -18,7 +18,8 @@ use Rattle.model.proofs.Bytes.{put-over, put-zero}
 use Rattle.model.proofs.Runs.{flat_map_take, length-flatMap, flat_map_append, flat_map_one}
 use Rattle.model.proofs.Post.{new_names-append, new_indexes_snoc, length-new_indexes}
 use Rattle.post.specs.Post.{Stands, size_at, walked, index_of, stored_names, name_bytes, index_bytes, head_bytes, post_bytes, Answered}
-use Rattle.post.specs.declared.Asked.TheVariants.{Missing, Names}
+use Rattle.std.specs.Prelude.{Ok, Err}
+use Rattle.answer.specs.declared.Refusal.TheVariants.{MalformedFont}
 use Rattle.post.proofs.Cut.{each-there, each-missing}
 use Rattle.model.proofs.Members.{by}
 use Rattle.post.proofs.Walk.{stands-first, stands-walked, stands-name, size-inside, whole_part}
@@ -204,11 +205,11 @@ count_turn b ids own want own' want' j i n h u e w s =
       small = s;
     }
 
-pub count-missing : (b : Bytes) (ids : List ℕ) (own want j : ℕ) → Counting b ids own want j → j < length ids → word16 b 32 ≤ get_or ids j 0 → Answered b ids Missing
+pub count-missing : (b : Bytes) (ids : List ℕ) (own want j : ℕ) → Counting b ids own want j → j < length ids → word16 b 32 ≤ get_or ids j 0 → Answered b ids (Err MalformedFont)
 count-missing b ids own want j n h g =
     record { own = sym (ap (map_res (λ is. length (new_names (names_of b) is))) (each-missing b ids j n.under h g)); small = omega arith }
 
-pub count_end : (b : Bytes) (ids : List ℕ) (own want j : ℕ) → Counting b ids own want j → length ids ≤ j → Answered b ids (Names own want)
+pub count_end : (b : Bytes) (ids : List ℕ) (own want j : ℕ) → Counting b ids own want j → length ids ≤ j → Answered b ids (Ok (record { own = own; want = want }))
 unfolding stored_names
 count_end b ids own want j n h =
     let e : j ≡ length ids = omega (arith, n.within) in

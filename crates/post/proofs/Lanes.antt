@@ -12,9 +12,8 @@ use borrow.Author.Tests.{ltb-true, ltb-false, eqb-true, eqb-false}
 use Rattle.model.specs.Bytes.{Bytes, word16}
 use Rattle.model.proofs.Members.{by}
 use Rattle.post.specs.Post.{size_at, walked, Stands, place_in, with_place, ChainAt, Chained}
-use Rattle.post.specs.Chains.{Chain, Stepped, Went, Spaced, Four, Joined, Head, Headed, Heads, Led, Arrived, Rounded}
-use Rattle.post.specs.declared.chains.Reached.{Reached}
-use Rattle.post.specs.declared.chains.Reached.TheVariants.{Missed, To}
+use Rattle.post.specs.Chains.{Chain, Stepped, Went, Spaced, Four, Begun, Joined, Head, Headed, Heads, Led, Arrived, Rounded}
+use Rattle.std.specs.Prelude.{Option, Some, None, OnSome}
 use Rattle.post.specs.declared.chains.Lane.{Lane}
 use Rattle.post.specs.declared.chains.Starts.{Starts}
 use Rattle.post.specs.declared.chains.Lanes.{Lanes}
@@ -151,44 +150,36 @@ going-turn b at q s room₀ room l₁ l₂ l₃ l₄ turns g lt r₁ r₂ r₃ r
       front = λ x h. four-front b at q s turns l₁ l₂ l₃ l₄ room g.four lt r₁ room₁ s₁ r₂ room₂ s₂ r₃ room₃ s₃ r₄ room₄ s₄ x h ∙ g.front x h;
     }
 
-pub going_start : (b : Bytes) (at q : ℕ) (s : Starts) (room : List ℕ) (l₁ l₂ l₃ l₄ : Lane) → l₁.p ≡ s.a → l₂.p ≡ s.b → l₃.p ≡ s.c → l₄.p ≡ s.d
-    → l₁.n ≡ 0 → l₂.n ≡ 0 → l₃.n ≡ 0 → l₄.n ≡ 0 → Going b at q s room room l₁ l₂ l₃ l₄ 0
-going_start b at q s room l₁ l₂ l₃ l₄ p₁ p₂ p₃ p₄ n₁ n₂ n₃ n₄ =
+pub four_start : (b : Bytes) (at q : ℕ) (s : Starts) (room : List ℕ) (f : Lanes) → Begun s f → Four b room at q s f.turns f.a f.b f.c f.d
+four_start b at q s room f g =
     record {
-      four = record {
-        chain₁ = chain-start b room s.a at l₁ p₁ n₁;
-        chain₂ = chain-start b room s.b (at + q) l₂ p₂ n₂;
-        chain₃ = chain-start b room s.c (at + 2 * q) l₃ p₃ n₃;
-        chain₄ = chain-start b room s.d (at + 3 * q) l₄ p₄ n₄;
-        few₁ = omega arith;
-        few₂ = omega arith;
-        few₃ = omega arith;
-        few₄ = omega arith;
-      };
-      fits = omega arith;
-      same_length = refl;
-      front = λ x h. refl;
+      chain₁ = rw g.at_a (chain-start b room s.a at _ refl refl);
+      chain₂ = rw g.at_b (chain-start b room s.b (at + q) _ refl refl);
+      chain₃ = rw g.at_c (chain-start b room s.c (at + 2 * q) _ refl refl);
+      chain₄ = rw g.at-d (chain-start b room s.d (at + 3 * q) _ refl refl);
+      few₁ = rw g.at_a (omega arith);
+      few₂ = rw g.at_b (omega arith);
+      few₃ = rw g.at_c (omega arith);
+      few₄ = rw g.at-d (omega arith);
     }
 
 -- a walk alone
-pub record Alone (b : Bytes) (base at q : ℕ) (from : Lane) (room₀ room : List ℕ) (l : Lane) (turns stop : ℕ) : Type 0 where
+pub record Alone (b : Bytes) (base at q : ℕ) (from : Lane) (room₀ room : List ℕ) (l : Lane) (turns : ℕ) : Type 0 where
   pub chain : Chain b room base at l
   pub few : l.n ≤ turns
-  pub tops : turns ≤ q
-  pub fits : stop ≤ q
+  pub fits : turns ≤ q
   pub grown : from.n ≤ l.n
   pub same_length : length room ≡ length room₀
   pub front : (x : ℕ) → x < at → get_or room x 0 ≡ get_or room₀ x 0
 
-pub alone_turn : (b : Bytes) (base at q : ℕ) (from : Lane) (room₀ room after : List ℕ) (l r : Lane) (turns stop stop' : ℕ)
-    → Alone b base at q from room₀ room l turns stop → turns < stop → Stepped b base at l room r after → stop' ≤ q
-    → Alone b base at q from room₀ after r (turns + 1) stop'
-alone_turn b base at q from room₀ room after l r turns stop stop' a lt s k =
+pub alone_turn : (b : Bytes) (base at q : ℕ) (from : Lane) (room₀ room after : List ℕ) (l r : Lane) (turns : ℕ)
+    → Alone b base at q from room₀ room l turns → turns < q → Stepped b base at l room r after
+    → Alone b base at q from room₀ after r (turns + 1)
+alone_turn b base at q from room₀ room after l r turns a lt s =
     record {
       chain = s.chain;
       few = omega (arith, a.few, s.more);
-      tops = omega (arith, a.fits);
-      fits = k;
+      fits = omega arith;
       grown = omega (arith, a.grown, s.grown);
       same_length = s.same_length ∙ a.same_length;
       front = λ x h. s.others x (λ e. omega arith) ∙ a.front x h;
@@ -315,7 +306,7 @@ module _ (b : Bytes) (q c i turns : ℕ) (room room₁ after : List ℕ) (from :
   chain₄-at = chain-at b after q c (i + 3) s.d (from.n + f.a.n + f.b.n + f.c.n) (4 + 4 * c + (i + 3) * q) d hs.head₄
       (chain-kept b room₁ after s.d (4 + 4 * c + (i + 3) * q) d w.chain (λ x p r. hs.back x (omega (arith, led.four-more)))) (omega (arith, jo.some₄, w.grown)) w.few share-after number-after refl stands₄
 
-  pub arrive : from.n + f.a.n + f.b.n + f.c.n + d.n ≤ 65535 → Arrived b q c i from.n room d.p (from.n + f.a.n + f.b.n + f.c.n + d.n) after
+  pub arrive : from.n + f.a.n + f.b.n + f.c.n + d.n ≤ 65535 → Arrived b q c i from.n room (record { p = d.p; n = from.n + f.a.n + f.b.n + f.c.n + d.n }) after
   arrive small =
       record {
         first-at = hs.head₁.first-at;
@@ -334,9 +325,9 @@ module _ (b : Bytes) (q c i turns : ℕ) (room room₁ after : List ℕ) (from :
       }
 
 -- what was written behind `at` before is no matter in front of it
-pub arrived_behind : (b : Bytes) (q c i first p n : ℕ) (room room₁ after : List ℕ) → i + 4 ≤ c → Arrived b q c i first room₁ p n after
-    → ((x : ℕ) → x < 4 + 4 * c + i * q → get_or room₁ x 0 ≡ get_or room x 0) → length room₁ ≡ length room → Arrived b q c i first room p n after
-arrived_behind b q c i first p n room room₁ after four a k l =
+pub arrived_behind : (b : Bytes) (q c i first : ℕ) (l : Lane) (room room₁ after : List ℕ) → i + 4 ≤ c → Arrived b q c i first room₁ l after
+    → ((x : ℕ) → x < 4 + 4 * c + i * q → get_or room₁ x 0 ≡ get_or room x 0) → length room₁ ≡ length room → Arrived b q c i first room l after
+arrived_behind b q c i first l room room₁ after four a k same =
     record {
       first-at = a.first-at;
       stands = a.stands;
@@ -344,7 +335,7 @@ arrived_behind b q c i first p n room room₁ after four a k l =
       chains = a.chains;
       heads_front = λ x h. a.heads_front x h ∙ k x (omega arith);
       places-front = λ x lo hi. a.places-front x lo hi ∙ k x hi;
-      same_length = a.same_length ∙ l;
+      same_length = a.same_length ∙ same;
     }
 
 -- the chains in front stay when four more are made
@@ -376,9 +367,9 @@ pub record Made (b : Bytes) (q c i : ℕ) (room : List ℕ) : Type 0 where
   pub from_first : 0 < i → get_or room 6 0 ≡ 0
   pub chains : (j : ℕ) → j < i → ChainAt b room j
 
-pub made_more : (b : Bytes) (q c i first p n : ℕ) (room after : List ℕ) → (i ≡ 0 → first ≡ 0) → Made b q c i room → Arrived b q c i first room p n after
+pub made_more : (b : Bytes) (q c i first : ℕ) (l : Lane) (room after : List ℕ) → (i ≡ 0 → first ≡ 0) → Made b q c i room → Arrived b q c i first room l after
     → Made b q c (i + 4) after
-made_more b q c i first p n room after start m a =
+made_more b q c i first l room after start m a =
     record {
       mark = a.heads_front 0 (omega arith) ∙ m.mark;
       share = a.heads_front 1 (omega arith) ∙ m.share;
@@ -452,15 +443,15 @@ rounds_start b q c room l ep en four long short few mark share number =
       same_length = refl;
     }
 
-pub rounds_turn : (b : Bytes) (q c i i' p n : ℕ) (room₀ room after : List ℕ) (from l : Lane) → Rounds b q c i room₀ room from → i' ≡ i + 4 → i + 8 ≤ c
-    → Arrived b q c i from.n room p n after → l.p ≡ p → l.n ≡ n → Rounds b q c i' room₀ after l
-rounds_turn b q c i i' p n room₀ room after from l r e four a ep en =
-    let m : Made b q c i' after = rw e (made_more b q c i from.n p n room after r.first r.made a) in
+pub rounds_turn : (b : Bytes) (q c i i' : ℕ) (room₀ room after : List ℕ) (from l : Lane) → Rounds b q c i room₀ room from → i' ≡ i + 4 → i + 8 ≤ c
+    → Arrived b q c i from.n room l after → Rounds b q c i' room₀ after l
+rounds_turn b q c i i' room₀ room after from l r e four a =
+    let m : Made b q c i' after = rw e (made_more b q c i from.n l room after r.first r.made a) in
     record {
       made = m;
       led = record {
-        stands = λ h. rw (ep, en) (a.stands (omega arith));
-        small = omega (arith, a.small);
+        stands = a.stands;
+        small = a.small;
         four-more = omega arith;
         room_for = omega (arith, a.same_length, r.led.room_for);
         short = omega (arith, a.same_length, r.led.short);
@@ -471,6 +462,13 @@ rounds_turn b q c i i' p n room₀ room after from l r e four a ep en =
       first = λ z. absurd (omega arith);
       same_length = a.same_length ∙ r.same_length;
     }
+
+-- the last round
+pub rounds_end : (b : Bytes) (q c i : ℕ) (room₀ room after : List ℕ) (from : Lane) (r : Option Lane) → Rounds b q c i room₀ room from → 8 ≤ c → i + 4 ≡ c
+    → Rounded b q c i from.n room r after → OnSome r ((get_or after 0 0 ≡ 0) × Chained b after)
+rounds_end b q c i room₀ room after from None s eight e a = tt
+rounds_end b q c i room₀ room after from (Some l) s eight e a =
+    made_all b q c after eight (omega (arith, s.led.room_for, a.same_length)) (rw e at (made_more b q c i from.n l room after s.first s.made a))
 
 -- a name's place in its chain
 pub slot-inside : (b : Bytes) (room : List ℕ) (i j : ℕ) → Chained b room → i < get_or room 2 0 → j ≤ get_or room (7 + 4 * i) 0 → 4 + 4 * get_or room 2 0 + i * get_or room 1 0 + j < length room
@@ -504,7 +502,7 @@ led-room b q c i room after from l k e =
       number = k 2 (omega arith) ∙ l.number;
     }
 
-pub rounded_behind : (b : Bytes) (q c i first : ℕ) (room room₁ after : List ℕ) (r : Reached) → i + 4 ≤ c → Rounded b q c i first room₁ r after
+pub rounded_behind : (b : Bytes) (q c i first : ℕ) (room room₁ after : List ℕ) (r : Option Lane) → i + 4 ≤ c → Rounded b q c i first room₁ r after
     → ((x : ℕ) → x < 4 + 4 * c + i * q → get_or room₁ x 0 ≡ get_or room x 0) → length room₁ ≡ length room → Rounded b q c i first room r after
-rounded_behind b q c i first room room₁ after Missed four a k l = a ∙ l
-rounded_behind b q c i first room room₁ after (To p n) four a k l = arrived_behind b q c i first p n room room₁ after four a k l
+rounded_behind b q c i first room room₁ after None four a k same = a ∙ same
+rounded_behind b q c i first room room₁ after (Some l) four a k same = arrived_behind b q c i first l room room₁ after four a k same

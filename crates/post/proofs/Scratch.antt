@@ -10,24 +10,26 @@ use Rattle.model.specs.Res.{refuse, ok, map_res, is_ok, value_of}
 use Rattle.model.specs.Bytes.{word32}
 use Rattle.model.specs.Post.{cut_post}
 use Rattle.model.proofs.Res.{true_false, map_inv}
-use Rattle.answer.specs.declared.Size.TheVariants.{Bytes, No}
+use Rattle.std.specs.Prelude.{Ok, Err}
+use Rattle.answer.specs.declared.Refusal.{Refusal}
+use Rattle.answer.specs.Answers.{number}
 use Rattle.post.specs.Post.{Named, Measured, post_bytes}
 use Rattle.post.specs.Found.{Sought}
 use Rattle.post.proofs.Cut.{named-cut}
 use Rattle.post.proofs.Grow.{length-post_bytes}
 use Rattle.post.proofs.Found.{behind-roster}
 
-pub measured-refused : (b : List ℕ) (s : List ℕ) (n kept k : ℕ) → cut_post b (take kept s) ≡ refuse k → Measured b s n kept (No k) s
-measured-refused b s n kept k e =
+pub measured-refused : (b : List ℕ) (s : List ℕ) (n kept : ℕ) (r : Refusal) → cut_post b (take kept s) ≡ refuse (number r) → Measured b s n kept (Err r) s
+measured-refused b s n kept r e =
     record { size = sym (ap (map_res length) e); same_length = refl; front = refl; back = refl; index = λ t. true_false (sym t); unnamed = λ _. refl }
 
-pub measured-copied : (b : List ℕ) (s : List ℕ) (n kept : ℕ) → cut_post b (take kept s) ≡ ok b → (word32 b 0 ≡ 0x00020000 → ⊥) → Measured b s n kept (Bytes (length b)) s
+pub measured-copied : (b : List ℕ) (s : List ℕ) (n kept : ℕ) → cut_post b (take kept s) ≡ ok b → (word32 b 0 ≡ 0x00020000 → ⊥) → Measured b s n kept (Ok (length b)) s
 measured-copied b s n kept e v =
     record { size = sym (ap (map_res length) e); same_length = refl; front = refl; back = refl; index = λ t. record { index = λ w. absurd (v w) }; unnamed = λ _. refl }
 
 -- the names found, and the rest of the table
 pub measured-cut : (b s after : List ℕ) (n kept r : ℕ) → kept ≤ n → 4 * n ≤ length s → Named b (take kept s) → Sought b n kept s r after
-    → Measured b s n kept (Bytes (34 + 2 * kept + r)) after
+    → Measured b s n kept (Ok (34 + 2 * kept + r)) after
 measured-cut b s after n kept r k h m x =
     let l : length (take kept s) ≡ kept = length-take-le kept s (omega arith) in
     let new : 34 + 2 * kept + r ≡ length (post_bytes b (take kept s)) = omega (arith, x.size, length-post_bytes b (take kept s) (omega (arith, m.array))) in
@@ -41,7 +43,7 @@ measured-cut b s after n kept r k h m x =
     }
 
 -- what `measure` ensures is what `write` requires, of the scratch as it is then
-module _ (b s after : List ℕ) (n kept l : ℕ) (h : kept ≤ n) (m : Measured b s n kept (Bytes l) after) where
+module _ (b s after : List ℕ) (n kept l : ℕ) (h : kept ≤ n) (m : Measured b s n kept (Ok l) after) where
   pub measured-roster : take kept after ≡ take kept s
   measured-roster =
       sym (take-take kept (2 * n) after (omega arith)) ∙ ap (take kept) m.front ∙ take-take kept (2 * n) s (omega arith)

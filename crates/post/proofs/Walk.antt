@@ -1,7 +1,7 @@
 -- Where names stand: a name at a place that is one's, the list's end, and a walk of so many names.
 use mathlib.Core.Path.{◌≡◌, refl, sym, ap, ◌∙◌}
 use mathlib.Core.List.{List, [], ◌∷◌}
-use Prim.Native.Nat.{ℕ, zero, suc, ◌+◌, ◌*◌, ◌-◌, ◌≤◌, ◌<◌}
+use Prim.Native.Nat.{ℕ, zero, suc, min, ◌+◌, ◌*◌, ◌-◌, ◌≤◌, ◌<◌}
 use native.Mathlib.Omega.{arith}
 use native.Mathlib.Nat.{add-zero}
 use native.Mathlib.Numerals.{add-one}
@@ -92,6 +92,12 @@ pub stands_end : (b : Bytes) (p k : ℕ) → length b ≤ p → Stands b p k →
 stands_end b p k h s =
     let e : length b ≤ length b = omega arith in
     record { rest = s.rest ∙ ap (names (length b)) (drop_of_length-le b h ∙ sym (drop_of_length-le b e)) }
+
+pub stands_within : (b : Bytes) (p k : ℕ) → Stands b p k → Stands b (min p (length b)) k
+stands_within b p k s =
+    by (leb p (length b))
+    (λ t. let e : min p (length b) ≡ p = omega (arith, leb-true p (length b) t) in rw e s)
+    (λ t. let e : min p (length b) ≡ length b = omega (arith, leb-false p (length b) t) in rw e (stands_end b p k (omega (arith, leb-false p (length b) t)) s))
 
 -- what is stored for name k: the bytes from its place on, or an empty name
 pub stands-name : (b : Bytes) (p k : ℕ) → Stands b p k → pascal (get_or (names_of b) k []) ≡ size_at b p ∷ part b (p + 1) (size_at b p)

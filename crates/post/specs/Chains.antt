@@ -1,12 +1,10 @@
 -- Walks along the names, each from its own start: what each has left in the room, and what four of them side by side keep.
-use Rattle.std.specs.Prelude.{◌≡◌, List, ℕ, ◌+◌, ◌*◌, ◌-◌, ◌<◌, ◌≤◌, length, get_or}
+use Rattle.std.specs.Prelude.{◌≡◌, Option, Some, None, List, ℕ, ◌+◌, ◌*◌, ◌-◌, ◌<◌, ◌≤◌, length, get_or}
 use Rattle.model.specs.Bytes.{Bytes}
 use Rattle.post.specs.Post.{walked, Stands, place_in, ChainAt}
 use Rattle.post.specs.declared.chains.Lane.{Lane}
 use Rattle.post.specs.declared.chains.Starts.{Starts}
 use Rattle.post.specs.declared.chains.Lanes.{Lanes}
-use Rattle.post.specs.declared.chains.Reached.{Reached}
-use Rattle.post.specs.declared.chains.Reached.TheVariants.{Missed, To}
 
 -- A walk from `base` has passed n names and left their distances from `at` on. It is behind them, or outside the table and nowhere.
 pub record Chain (b : Bytes) (room : List ℕ) (base at : ℕ) (l : Lane) : Type 0 where
@@ -52,6 +50,14 @@ pub record Four (b : Bytes) (room : List ℕ) (at q : ℕ) (s : Starts) (turns :
   pub few₂ : l₂.n ≤ turns
   pub few₃ : l₃.n ≤ turns
   pub few₄ : l₄.n ≤ turns
+
+-- none has made a turn
+pub record Begun (s : Starts) (f : Lanes) : Type 0 where
+  pub at_a : f.a ≡ record { p = s.a; n = 0 }
+  pub at_b : f.b ≡ record { p = s.b; n = 0 }
+  pub at_c : f.c ≡ record { p = s.c; n = 0 }
+  pub at-d : f.d ≡ record { p = s.d; n = 0 }
+  pub turns : f.turns ≡ 0
 
 -- and what they leave of a room
 pub record Ran (b : Bytes) (at q : ℕ) (s : Starts) (room : List ℕ) (f : Lanes) (after : List ℕ) : Type 0 where
@@ -104,15 +110,15 @@ pub record Led (b : Bytes) (room : List ℕ) (q c i : ℕ) (from : Lane) : Type 
   pub number : get_or room 2 0 ≡ c
 
 -- four chains more, nothing in front of their heads or of their places changed
-pub record Arrived (b : Bytes) (q c i first : ℕ) (room : List ℕ) (p n : ℕ) (after : List ℕ) : Type 0 where
+pub record Arrived (b : Bytes) (q c i first : ℕ) (room : List ℕ) (l : Lane) (after : List ℕ) : Type 0 where
   pub first-at : get_or after (6 + 4 * i) 0 ≡ first
-  pub stands : p ≤ length b → Stands b p n
-  pub small : n ≤ 65535
+  pub stands : l.p ≤ length b → Stands b l.p l.n
+  pub small : l.n ≤ 65535
   pub chains : (j : ℕ) → i ≤ j → j < i + 4 → ChainAt b after j
   pub heads_front : (x : ℕ) → x < 4 + 4 * i → get_or after x 0 ≡ get_or room x 0
   pub places-front : (x : ℕ) → 4 + 4 * c ≤ x → x < 4 + 4 * c + i * q → get_or after x 0 ≡ get_or room x 0
   pub same_length : length after ≡ length room
 
-abbrev pub Rounded : Bytes → ℕ → ℕ → ℕ → ℕ → List ℕ → Reached → List ℕ → Type 0
-Rounded b q c i first room Missed after = length after ≡ length room
-Rounded b q c i first room (To p n) after = Arrived b q c i first room p n after
+abbrev pub Rounded : Bytes → ℕ → ℕ → ℕ → ℕ → List ℕ → Option Lane → List ℕ → Type 0
+Rounded b q c i first room None after = length after ≡ length room
+Rounded b q c i first room (Some l) after = Arrived b q c i first room l after

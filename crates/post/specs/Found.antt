@@ -1,5 +1,6 @@
 -- Names that `measure` finds one after the other: where it looks, and what it puts away.
-use Rattle.std.specs.Prelude.{◌≡◌, Bool, ℕ, ◌+◌, ◌*◌, ◌-◌, ◌<◌, eqb, length, get_or, take, drop}
+use Rattle.std.specs.Prelude.{◌≡◌, Option, Some, None, Bool, ℕ, ◌+◌, ◌*◌, ◌-◌, ◌<◌, length, get_or, take, drop}
+use Rattle.std.specs.Borrow.{Bor}
 use mathlib.Core.List.{List, flat_map}
 use Rattle.model.specs.Res.{pick}
 use Rattle.model.specs.Bytes.{Bytes, part}
@@ -9,9 +10,10 @@ use Rattle.post.specs.Post.{Stands, place_in, index_of, name_bytes, placed_for, 
 unfoldable pub places_at : Bool → ℕ → ℕ → ℕ
 places_at found n kept = pick found (2 * n - kept) (2 * n)
 
--- the index: an array of its own, or, if that is empty, the scratch from 2n to place `at`
-unfoldable pub index_for : List ℕ → List ℕ → ℕ → ℕ → List ℕ
-index_for own scratch n at = pick (eqb (length own) 0) (part scratch (2 * n) (2 * at - 2 * n)) own
+-- the index: an array of its own, or, with none, the scratch from 2n to place `at`
+abbrev pub index_for : Option (Bor (List ℕ)) → List ℕ → ℕ → ℕ → List ℕ
+index_for None scratch n at = part scratch (2 * n) (2 * at - 2 * n)
+index_for (Some own) scratch n at = own.now
 
 -- only the scratch's numbers from place `at` to 4n may have changed
 pub record Behind (n at : ℕ) (before after : List ℕ) : Type 0 where

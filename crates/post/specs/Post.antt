@@ -1,15 +1,12 @@
 -- What post's code goes by: where a name stands in the list of names, which places the scratch holds, and the new table glyph by glyph.
-use Rattle.std.specs.Prelude.{◌≡◌, Bool, true, false, ℕ, zero, suc, ◌+◌, ◌*◌, ◌-◌, ◌%◌, ◌/◌, ◌<◌, ◌≤◌, ltb, leb, eqb, length, get_or, take, drop, set}
+use Rattle.std.specs.Prelude.{◌≡◌, Result, Ok, Err, Option, Some, None, Bool, true, false, ℕ, zero, suc, ◌+◌, ◌*◌, ◌-◌, ◌%◌, ◌/◌, ◌<◌, ◌≤◌, ltb, leb, eqb, length, get_or, take, drop, set}
 use mathlib.Core.List.{List, [], ◌++◌, map, flat_map}
 use Rattle.model.specs.Res.{Res, refuse, ok, pick, both, either, map_res, is_ok, each}
 use Rattle.model.specs.Bytes.{Bytes, word16, word32, be16, part}
 use Rattle.model.specs.Post.{names, names_of, new_indexes, new_names, post_index, pascal, cut_post}
-use Rattle.answer.specs.declared.Size.{Size}
-use Rattle.answer.specs.Answers.{size_of}
+use Rattle.answer.specs.declared.Refusal.{Refusal}
+use Rattle.answer.specs.Answers.{number, res_of}
 use Rattle.post.specs.declared.Asked.{Asked}
-use Rattle.post.specs.declared.Asked.TheVariants.{Missing, Names}
-use Rattle.post.specs.declared.Tested.{Tested}
-use Rattle.post.specs.declared.Tested.TheVariants.{No, Copied, Wanted}
 
 -- how long the name is whose length byte stands at p; 0 where the list ends: past the table, cut, or empty
 unfoldable pub size_at : Bytes → ℕ → ℕ
@@ -112,31 +109,31 @@ pub record Named (b : Bytes) (ids : List ℕ) : Type 0 where
   pub few : 257 + length (stored_names b ids) ≤ 65535
 
 -- the survey of the kept glyphs: one of them has no index, or so many names will be stored
-abbrev pub own_of : Asked → Res ℕ
-own_of Missing = refuse 3
-own_of (Names own want) = ok own
+abbrev pub own_of : Result Asked Refusal → Res ℕ
+own_of (Err e) = refuse (number e)
+own_of (Ok s) = ok s.own
 
 -- names from this number on are not asked for: it decides how many places are held and not what is right
-abbrev pub want_of : Asked → ℕ
-want_of Missing = 0
-want_of (Names own want) = want
+abbrev pub want_of : Result Asked Refusal → ℕ
+want_of (Err e) = 0
+want_of (Ok s) = s.want
 
-pub record Answered (b : Bytes) (ids : List ℕ) (r : Asked) : Type 0 where
+pub record Answered (b : Bytes) (ids : List ℕ) (r : Result Asked Refusal) : Type 0 where
   pub own : own_of r ≡ map_res (λ is. length (new_names (names_of b) is)) (each (post_index b) ids)
   pub small : want_of r ≤ 65278
 
 -- what each outcome of the tests says
-abbrev pub Tells : Bytes → List ℕ → Tested → Type 0
-Tells b ids (No k) = cut_post b ids ≡ refuse k
-Tells b ids Copied = (cut_post b ids ≡ ok b) × (word32 b 0 ≡ 0x00020000 → ⊥)
-Tells b ids (Wanted want) = Named b ids × (want ≤ 65278)
+abbrev pub Tells : Bytes → List ℕ → Result (Option ℕ) Refusal → Type 0
+Tells b ids (Err e) = cut_post b ids ≡ refuse (number e)
+Tells b ids (Ok None) = (cut_post b ids ≡ ok b) × (word32 b 0 ≡ 0x00020000 → ⊥)
+Tells b ids (Ok (Some want)) = Named b ids × (want ≤ 65278)
 
 -- a measured table: its size or the refusal; the scratch, of which only the places 2n to 4n may have changed, and only if the table has names; what `write`
 -- goes by
-pub record Measured (b : Bytes) (scratch : List ℕ) (n kept : ℕ) (r : Size) (after : List ℕ) : Type 0 where
-  pub size : size_of r ≡ map_res length (cut_post b (take kept scratch))
+pub record Measured (b : Bytes) (scratch : List ℕ) (n kept : ℕ) (r : Result ℕ Refusal) (after : List ℕ) : Type 0 where
+  pub size : res_of r ≡ map_res length (cut_post b (take kept scratch))
   pub same_length : length after ≡ length scratch
   pub front : take (2 * n) after ≡ take (2 * n) scratch
   pub back : drop (4 * n) after ≡ drop (4 * n) scratch
-  pub index : is_ok (size_of r) ≡ true → Indexed b after n kept
+  pub index : is_ok (res_of r) ≡ true → Indexed b after n kept
   pub unnamed : (word32 b 0 ≡ 0x00020000 → ⊥) → after ≡ scratch

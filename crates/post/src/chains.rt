@@ -2,10 +2,10 @@
 // little longer than one. Three of the four start at guessed places. One that comes exactly to where the next one started shows
 // that guess to be right: the two are then one walk. Each leaves a chain: the distance of every name from the chain's first, one
 // number a name, in its share of the room. There are as many rounds of four walks as make a chain short enough for a distance.
-ghost use Rattle.std.specs.Prelude.{◌≡◌, true, ◌+◌, ◌*◌, ◌≤◌, ◌<◌, length, get_or};
+ghost use Rattle.std.specs.Prelude.{◌≡◌, true, ◌+◌, ◌*◌, ◌≤◌, ◌<◌, length, get_or, OnSome};
 ghost use Rattle.model.specs.Bytes.{word16};
 ghost use Rattle.post.specs.Post.{Stands, place_in, Chained};
-ghost use Rattle.post.specs.Chains.{Chain, Stepped, Spaced, Four, Ran, Went, Joined, Headed, Heads, Rounded, Led};
+ghost use Rattle.post.specs.Chains.{Chain, Stepped, Spaced, Four, Ran, Went, Joined, Headed, Heads, Rounded, Led, Begun};
 
 use crate::names;
 
@@ -26,7 +26,8 @@ struct Starts {
     end: usize,
 }
 
-// Four walks. None has passed more names than there were turns.
+// Four walks. None has passed more names than there were turns. They are fields and no array, so that
+// LLVM keeps each in a register with no loop over them to unroll first.
 #[derive(Clone, Copy)]
 struct Lanes {
     a: Lane,
@@ -34,13 +35,6 @@ struct Lanes {
     c: Lane,
     d: Lane,
     turns: usize,
-}
-
-// Four walks have missed each other, or came together to this place, the name of this number.
-#[derive(Clone, Copy)]
-enum Reached {
-    Missed,
-    To(usize, usize),
 }
 
 // The index of names below `want`, as chains, if all guesses were right. Chains are made quickly, and a name is found in them a
@@ -57,7 +51,7 @@ pub fn fill(post: &[u8], want: usize, lookups: usize, room: &mut [u16]) -> bool
     if want / 3 < lookups {
         return false;
     }
-    let count = names::wide(read::u16_at(post, 32));
+    let count = usize::from(read::u16_at(post, 32));
     let start = 34 + 2 * count;
     let end = estimate(post.len(), start, want, count);
     let rounds = rounds_for(end - start);
@@ -69,7 +63,7 @@ pub fn fill(post: &[u8], want: usize, lookups: usize, room: &mut [u16]) -> bool
     room[0] = 0;
     room[1] = q as u16;
     room[2] = chains as u16;
-    all_rounds(post, want, room, q, rounds, start, end)
+    all_rounds(post, want, room, q, rounds, start, end).is_some()
 }
 
 // Where so many names end, if all are equally long: at least as many as the indexes that aren't standard names.
@@ -82,10 +76,7 @@ fn estimate(len: usize, start: usize, want: usize, count: usize) -> usize
         return len;
     }
     let part = all * want / (count - 258);
-    if all < part {
-        return len;
-    }
-    start + part
+    start + part.min(all)
 }
 
 // Two, or as many as leave 250,000 bytes to each: none may have more than 260,000, and one starts a little before or behind its part.
@@ -109,35 +100,23 @@ fn all_rounds(
     rounds: usize,
     start: usize,
     end: usize,
-) -> bool
+) -> Option<Lane>
     requires start_value { (start ≡ 34 + 2 * word16 post.now 32) × (start ≤ end) × (end ≤ length post.now) × (length post.now ≤ 4294967295) }
     requires le_rounds { (2 ≤ rounds) × (4 + 4 * (4 * rounds) + 4 * rounds * q ≤ length room.old) × (length room.old ≤ 131072) × (q ≤ 32768) }
     requires room_value { (get_or room.old 0 0 ≡ 0) × (get_or room.old 1 0 ≡ q) × (get_or room.old 2 0 ≡ 4 * rounds) }
-    ensures { result ≡ true → (get_or room.new 0 0 ≡ 0) × Chained post.now room.new }
+    ensures { OnSome result ((get_or room.new 0 0 ≡ 0) × Chained post.now room.new) }
 {
     let part = (end - start) / rounds;
     let chains = 4 * rounds;
     let mut from = Lane { p: start, n: 0 };
-    let mut j = 0;
-    while j + 1 < rounds {
+    for j in 0..rounds - 1 {
         let stop = start + (j + 1) * part;
-        let r = round(post, room, q, chains, 4 * j, from, stop, 0);
-        match r {
-            Reached::Missed => return false,
-            Reached::To(p, n) => {
-                from = Lane { p: p, n: n };
-            }
-        }
-        j += 1;
+        from = round(post, room, q, chains, 4 * j, from, stop, 0)?;
     }
-    let s = round(post, room, q, chains, 4 * j, from, end, want);
-    match s {
-        Reached::Missed => false,
-        Reached::To(_, _) => true,
-    }
+    round(post, room, q, chains, chains - 4, from, end, want)
 }
 
-// Chains i to i + 3, from a name's place and number on.
+// Chains i to i + 3, from a name's place and number on. None: the four walks have missed each other; else where they came to.
 fn round(
     post: &[u8],
     room: &mut [u16],
@@ -147,26 +126,26 @@ fn round(
     from: Lane,
     end: usize,
     want: usize,
-) -> Reached
+) -> Option<Lane>
     requires led { Led post.now room.old q chains i from }
     requires end_in_bounds { (end ≤ length post.now) × (length post.now ≤ 4294967295) }
     ensures { Rounded post.now q chains i from.n room.old result room.new }
 {
     let start = from.p;
     if end <= start {
-        return Reached::Missed;
+        return None;
     }
     if 260000 < end - start {
-        return Reached::Missed;
+        return None;
     }
     let at = 4 + 4 * chains + i * q;
     let s = guess_starts(post, start, end);
-    let ahead = run_all(post, room, at, q, s);
-    let f = run_rest(post, room, at, q, s, ahead);
+    let ahead = run::<false>(post, room, at, q, s, begin(s));
+    let f = run::<true>(post, room, at, q, s, ahead);
     if met(s, f) {
         return finish(post, room, q, chains, i, from, s, f, want);
     }
-    Reached::Missed
+    None
 }
 
 // The four walks have met: the last one goes on to the name that is wanted, and the chains get their heads.
@@ -180,26 +159,20 @@ fn finish(
     s: Starts,
     f: Lanes,
     want: usize,
-) -> Reached
+) -> Option<Lane>
     requires led { Led post.now room.old q chains i from × Spaced post.now s × (length post.now ≤ 4294967295) }
     requires four { Four post.now room.old (4 + 4 * chains + i * q) q s f.turns f.a f.b f.c f.d × Joined s f × (f.turns ≤ q) × (s.a ≡ from.p) }
     ensures { Rounded post.now q chains i from.n room.old result room.new }
 {
-    let a = f.a;
-    let b = f.b;
-    let c = f.c;
-    let n = from.n + a.n + b.n + c.n;
-    let mut names = 0;
-    if n < want {
-        names = want - n;
-    }
+    let n = from.n + f.a.n + f.b.n + f.c.n;
+    let names = want.saturating_sub(n);
     let at = 4 + 4 * chains + (i + 3) * q;
     let d = go_on(post, room, s.d, at, q, f.d, names);
     if 65535 < n + d.n {
-        return Reached::Missed;
+        return None;
     }
-    set_heads(room, i, from.n, s, a.n, b.n, c.n, d.n);
-    Reached::To(d.p, n + d.n)
+    set_heads(room, i, from.n, s, f.a.n, f.b.n, f.c.n, d.n);
+    Some(Lane { p: d.p, n: n + d.n })
 }
 
 // Each at the first byte behind its part of the way that no name holds: below '-', or if there is none, above 'z'.
@@ -213,113 +186,74 @@ fn guess_starts(post: &[u8], start: usize, end: usize) -> Starts
         b: guess(post, start + part, end),
         c: guess(post, start + 2 * part, end),
         d: guess(post, start + 3 * part, end),
-        end: end,
+        end,
     }
 }
 
+// One loop for both: by two calls of `position` a measured list took 1.2 times as long.
 fn guess(post: &[u8], from: usize, end: usize) -> usize
     requires { (from ≤ end) × (end ≤ length post.now) × (length post.now ≤ 4294967295) }
     ensures { (from ≤ result) × (result ≤ from + 256) × (result ≤ end) }
 {
-    let mut stop = from + 256;
-    if end < stop {
-        stop = end;
-    }
+    let stop = end.min(from + 256);
     let mut far = stop;
-    let mut p = from;
-    while p < stop {
-        let x = wide(post[p]);
-        if x < 45 {
+    for p in from..stop {
+        if post[p] < b'-' {
             return p;
         }
-        if 122 < x {
-            if p < far {
-                far = p;
-            }
+        if b'z' < post[p] {
+            far = far.min(p);
         }
-        p += 1;
     }
     far
 }
 
-// The four walks as long as none rests. A function of its own beside `run_rest`, since its test tells LLVM that no step is at its
-// limit: one function with a flag took 1.4 times as long.
-fn run_all(post: &[u8], room: &mut [u16], at: usize, q: usize, s: Starts) -> Lanes
-    requires { Spaced post.now s × (length post.now ≤ 4294967295) × (at + 4 * q ≤ length room.old) }
-    ensures { Ran post.now at q s room.old result room.new }
+// Where the four walks stand before their first turn.
+fn begin(s: Starts) -> Lanes
+    ensures { Begun s result }
 {
-    let mut a = Lane { p: s.a, n: 0 };
-    let mut b = Lane { p: s.b, n: 0 };
-    let mut c = Lane { p: s.c, n: 0 };
-    let mut d = Lane { p: s.d, n: 0 };
-    let mut turns = 0;
-    while turns < q {
-        if resting(s, a.p, b.p, c.p, d.p) {
-            return Lanes {
-                a: a,
-                b: b,
-                c: c,
-                d: d,
-                turns: turns,
-            };
-        }
-        a = step(post, room, s.a, s.b, at, a);
-        b = step(post, room, s.b, s.c, at + q, b);
-        c = step(post, room, s.c, s.d, at + 2 * q, c);
-        d = step(post, room, s.d, s.end, at + 3 * q, d);
-        turns += 1;
-    }
     Lanes {
-        a: a,
-        b: b,
-        c: c,
-        d: d,
-        turns: turns,
+        a: Lane { p: s.a, n: 0 },
+        b: Lane { p: s.b, n: 0 },
+        c: Lane { p: s.c, n: 0 },
+        d: Lane { p: s.d, n: 0 },
+        turns: 0,
     }
 }
 
-// The four walks until all rest.
-fn run_rest(post: &[u8], room: &mut [u16], at: usize, q: usize, s: Starts, f: Lanes) -> Lanes
+// The four walks as long as none rests, or with ALL until all rest. ALL is no argument, but makes two functions of this one: the
+// first one's test tells LLVM that no step is at its limit, and with a flag in its place the walks took 1.4 times as long.
+// A while, since the turns are part of the answer.
+fn run<const ALL: bool>(
+    post: &[u8],
+    room: &mut [u16],
+    at: usize,
+    q: usize,
+    s: Starts,
+    from: Lanes,
+) -> Lanes
     requires spaced { Spaced post.now s × (length post.now ≤ 4294967295) × (at + 4 * q ≤ length room.old) }
-    requires four { Four post.now room.old at q s f.turns f.a f.b f.c f.d × (f.turns ≤ q) }
+    requires four { Four post.now room.old at q s from.turns from.a from.b from.c from.d × (from.turns ≤ q) }
     ensures { Ran post.now at q s room.old result room.new }
 {
-    let mut a = f.a;
-    let mut b = f.b;
-    let mut c = f.c;
-    let mut d = f.d;
-    let mut turns = f.turns;
-    while turns < q {
-        if all_resting(s, a.p, b.p, c.p, d.p) {
-            return Lanes {
-                a: a,
-                b: b,
-                c: c,
-                d: d,
-                turns: turns,
-            };
-        }
-        a = step(post, room, s.a, s.b, at, a);
-        b = step(post, room, s.b, s.c, at + q, b);
-        c = step(post, room, s.c, s.d, at + 2 * q, c);
-        d = step(post, room, s.d, s.end, at + 3 * q, d);
-        turns += 1;
+    let mut f = from;
+    while f.turns < q && !resting::<ALL>(s, f) {
+        f.a = step(post, room, s.a, s.b, at, f.a);
+        f.b = step(post, room, s.b, s.c, at + q, f.b);
+        f.c = step(post, room, s.c, s.d, at + 2 * q, f.c);
+        f.d = step(post, room, s.d, s.end, at + 3 * q, f.d);
+        f.turns += 1;
     }
-    Lanes {
-        a: a,
-        b: b,
-        c: c,
-        d: d,
-        turns: turns,
-    }
+    f
 }
 
-fn resting(s: Starts, a: usize, b: usize, c: usize, d: usize) -> bool {
-    s.b <= a || s.c <= b || s.d <= c || s.end <= d
-}
-
-fn all_resting(s: Starts, a: usize, b: usize, c: usize, d: usize) -> bool {
-    s.b <= a && s.c <= b && s.d <= c && s.end <= d
+// Whether one walk is at its limit, or with ALL each is.
+fn resting<const ALL: bool>(s: Starts, f: Lanes) -> bool {
+    if ALL {
+        s.b <= f.a.p && s.c <= f.b.p && s.d <= f.c.p && s.end <= f.d.p
+    } else {
+        s.b <= f.a.p || s.c <= f.b.p || s.d <= f.c.p || s.end <= f.d.p
+    }
 }
 
 // One name further on, its place put down as the distance from the walk's start. From its limit on a walk rests. Where the list
@@ -329,14 +263,12 @@ fn step(post: &[u8], room: &mut [u16], base: usize, limit: usize, at: usize, l: 
     requires limit_bound { (limit ≤ base + 65536) × (limit ≤ length post.now) × (length post.now ≤ 4294967295) × (at + l.n < length room.old) }
     ensures { Stepped post.now base at l room.old result room.new }
 {
-    let p = l.p;
-    let n = l.n;
+    let Lane { p, n } = l;
     if limit <= p {
         return l;
     }
-    let size = wide(post[p]);
-    let slot = at + n;
-    room[slot] = (p - base) as u16;
+    let size = usize::from(post[p]);
+    room[at + n] = (p - base) as u16;
     if size == 0 {
         return Lane {
             p: post.len() + 1,
@@ -353,29 +285,7 @@ fn step(post: &[u8], room: &mut [u16], base: usize, limit: usize, at: usize, l: 
 fn met(s: Starts, f: Lanes) -> bool
     ensures { result ≡ true → Joined s f }
 {
-    let a = f.a;
-    let b = f.b;
-    let c = f.c;
-    let d = f.d;
-    if a.p != s.b {
-        return false;
-    }
-    if b.p != s.c {
-        return false;
-    }
-    if c.p != s.d {
-        return false;
-    }
-    if a.n == 0 {
-        return false;
-    }
-    if b.n == 0 {
-        return false;
-    }
-    if c.n == 0 {
-        return false;
-    }
-    0 < d.n
+    f.a.p == s.b && f.b.p == s.c && f.c.p == s.d && 0 < f.a.n && 0 < f.b.n && 0 < f.c.n && 0 < f.d.n
 }
 
 // One walk alone, to so many names.
@@ -392,21 +302,12 @@ fn go_on(
     requires base_in_bounds { (base ≤ length post.now) × (from.n ≤ q) × (at + q ≤ length room.old) }
     ensures { Went post.now base at q from room.old result room.new }
 {
-    let mut limit = base + 65536;
-    if post.len() < limit {
-        limit = post.len();
-    }
-    let mut stop = names;
-    if q < stop {
-        stop = q;
-    }
+    let limit = post.len().min(base + 65536);
     let mut l = from;
-    let mut turns = from.n;
-    while turns < stop {
+    for _turns in from.n..names.min(q) {
         l = step(post, room, base, limit, at, l);
-        turns += 1;
         if limit <= l.p {
-            stop = turns;
+            return l;
         }
     }
     l
@@ -470,12 +371,10 @@ fn near(room: &[u16], chain: usize, k: usize) -> usize
     requires { (8 ≤ get_or room.now 2 0) × (4 + 4 * get_or room.now 2 0 ≤ length room.now) × (get_or room.now 6 0 ≡ 0) }
     ensures { (result < get_or room.now 2 0) × (get_or room.now (6 + 4 * result) 0 ≤ k) }
 {
-    if chain < names::wide(room[2]) {
-        let first = names::wide(room[6 + 4 * chain]);
-        if first <= k {
-            if k - first <= names::wide(room[7 + 4 * chain]) {
-                return chain;
-            }
+    if chain < usize::from(room[2]) {
+        let first = usize::from(room[6 + 4 * chain]);
+        if first <= k && k - first <= usize::from(room[7 + 4 * chain]) {
+            return chain;
         }
     }
     chain_of(room, k)
@@ -486,8 +385,8 @@ fn name_in(post: &[u8], room: &[u16], i: usize, k: usize) -> usize
     requires { Chained post.now room.now × (i < get_or room.now 2 0) × (get_or room.now (6 + 4 * i) 0 ≤ k) }
     ensures { Stands post.now result k }
 {
-    let j = k - names::wide(room[6 + 4 * i]);
-    let last = names::wide(room[7 + 4 * i]);
+    let j = k - usize::from(room[6 + 4 * i]);
+    let last = usize::from(room[7 + 4 * i]);
     if last < j {
         return names::walk(post, in_chain(room, i, last), j - last);
     }
@@ -499,8 +398,8 @@ fn in_chain(room: &[u16], i: usize, j: usize) -> usize
     requires { (i < get_or room.now 2 0) × (4 + 4 * get_or room.now 2 0 + i * get_or room.now 1 0 + j < length room.now) }
     ensures { result ≡ place_in room.now (2 + 2 * i) + get_or room.now (4 + 4 * get_or room.now 2 0 + i * get_or room.now 1 0 + j) 0 }
 {
-    let at = 4 + 4 * names::wide(room[2]) + i * names::wide(room[1]);
-    names::place(room, 2 + 2 * i) + names::wide(room[at + j])
+    let at = 4 + 4 * usize::from(room[2]) + i * usize::from(room[1]);
+    names::place(room, 2 + 2 * i) + usize::from(room[at + j])
 }
 
 // The last chain whose first name isn't behind name k, by halving. Only huge lists have more than eight chains, so that the last steps
@@ -510,12 +409,9 @@ fn chain_of(room: &[u16], k: usize) -> usize
     ensures { (result < get_or room.now 2 0) × (get_or room.now (6 + 4 * result) 0 ≤ k) }
 {
     let mut i = 0;
-    let mut more = names::wide(room[2]);
+    let mut more = usize::from(room[2]);
     while 8 < more {
-        let mut step = more / 2;
-        if more < step + 8 {
-            step = more - 8;
-        }
+        let step = (more / 2).min(more - 8);
         i = later(room, i, step, k);
         more -= step;
     }
@@ -530,14 +426,8 @@ fn later(room: &[u16], i: usize, more: usize, k: usize) -> usize
     ensures { (result ≤ i + more) × (get_or room.now (6 + 4 * result) 0 ≤ k) }
 {
     let j = i + more;
-    if names::wide(room[6 + 4 * j]) <= k {
+    if usize::from(room[6 + 4 * j]) <= k {
         return j;
     }
     i
-}
-
-fn wide(x: u8) -> usize
-    ensures { (result ≡ x) × (result < 256) }
-{
-    x as usize
 }

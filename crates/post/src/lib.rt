@@ -17,20 +17,13 @@ ghost use Rattle.model.specs.Post.{cut_post};
 ghost use Rattle.post.specs.Post.{Stands, place_in, Index, index_of, PlaceAt, Located, many_names, placed_for, room_start, Indexed, name_bytes, index_bytes, head_bytes, post_bytes, Named, Answered, Tells, Measured};
 ghost use Rattle.post.specs.Found.{places_at, index_for, PutAway, Sized, Placing, Sought};
 
-// The kept glyphs looked through: one has no index; or how many names will be stored, and how many at the start of the
-// old list hold all that are asked for.
-#[derive(Clone, Copy)]
-enum Asked {
-    Missing,
-    Names(usize, usize),
-}
+use answer::Refusal;
 
-// The tests' outcome: a refusal, a table to copy, or one to cut.
+// The kept glyphs looked through: how many names will be stored, and how many at the start of the old list hold all that are asked for.
 #[derive(Clone, Copy)]
-enum Tested {
-    No(u32),
-    Copied,
-    Wanted(usize),
+struct Asked {
+    own: usize,
+    want: usize,
 }
 
 // A name was found: the bytes it takes, and the chain that holds its place.
@@ -41,17 +34,14 @@ struct Name {
 }
 
 // Step 8: how long the new table is, or the refusal. The roster is scratch[..kept]; the free half gets what `write` needs.
-pub fn measure(post: &[u8], scratch: &mut [u16], n: usize, kept: usize) -> answer::Size
+pub fn measure(post: &[u8], scratch: &mut [u16], n: usize, kept: usize) -> Result<usize, Refusal>
     requires kept_bound { (kept ≤ 65535) × (kept ≤ n) × (0 < n) × (n ≤ 65536) × (4 * n ≤ length scratch.old) }
     requires post_len_bound { length post.now ≤ 4294967295 }
     ensures { Measured post.now scratch.old n kept result scratch.new }
 {
-    match test(post, &scratch[..kept]) {
-        Tested::No(k) => answer::Size::No(k),
-        Tested::Copied => answer::Size::Bytes(post.len()),
-        Tested::Wanted(want) => {
-            answer::Size::Bytes(34 + 2 * kept + find_names(post, want, scratch, n, kept))
-        }
+    match test(post, &scratch[..kept])? {
+        None => Ok(post.len()),
+        Some(want) => Ok(34 + 2 * kept + find_names(post, want, scratch, n, kept)),
     }
 }
 
@@ -69,116 +59,98 @@ pub fn write(post: &[u8], scratch: &[u16], n: usize, kept: usize, out: &mut [u8]
     }
     let found = placed(post.len(), n, kept);
     let from = room_start(found, n, kept);
-    let end = 4 * n;
-    write_cut(post, &scratch[..kept], &scratch[from..end], found, out);
+    write_cut(post, &scratch[..kept], &scratch[from..4 * n], found, out);
 }
 
-// Every test, in the order that decides a refusal: the 5 comes after every 3.
-fn test(post: &[u8], ids: &[u16]) -> Tested
+// Every test, in the order that decides a refusal: the 5 comes after every 3. Of a table to copy nothing is wanted.
+fn test(post: &[u8], ids: &[u16]) -> Result<Option<usize>, Refusal>
     ensures { Tells post.now ids.now result }
 {
     if post.len() < 4 {
-        return Tested::No(3);
+        return Err(Refusal::MalformedFont);
     }
     if read::u32_at(post, 0) != 0x0002_0000 {
-        return Tested::Copied;
+        return Ok(None);
     }
     if post.len() < 34 {
-        return Tested::No(3);
+        return Err(Refusal::MalformedFont);
     }
-    if post.len() - 34 < 2 * names::wide(read::u16_at(post, 32)) {
-        return Tested::No(3);
+    if post.len() - 34 < 2 * usize::from(read::u16_at(post, 32)) {
+        return Err(Refusal::MalformedFont);
     }
-    match ask(post, ids) {
-        Asked::Missing => Tested::No(3),
-        Asked::Names(own, want) => {
-            // the last new index is 257 + own
-            if 65535 - 257 < own {
-                Tested::No(5)
-            } else {
-                Tested::Wanted(want)
-            }
-        }
+    let asked = ask(post, ids)?;
+    // the last new index is 257 + own
+    if 65535 - 257 < asked.own {
+        return Err(Refusal::Overflow);
     }
+    Ok(Some(asked.want))
 }
 
 // "No index for a kept id: 3"; else how many names will be stored, and below which number those that are asked for lie.
-fn ask(post: &[u8], ids: &[u16]) -> Asked
+fn ask(post: &[u8], ids: &[u16]) -> Result<Asked, Refusal>
     requires { 34 + 2 * word16 post.now 32 ≤ length post.now }
     ensures { Answered post.now ids.now result }
 {
     let count = read::u16_at(post, 32);
     let mut own: usize = 0;
     let mut want: usize = 0;
-    let mut j = 0;
-    while j < ids.len() {
-        let g = ids[j];
-        if count <= g {
-            return Asked::Missing;
+    for g in ids {
+        if count <= *g {
+            return Err(Refusal::MalformedFont);
         }
-        let i = index_at(post, g);
+        let i = index_at(post, *g);
         if 258 <= i {
             own += 1;
         }
-        if want + 257 < i {
-            want = i - 257;
-        }
-        j += 1;
+        want = want.max(i.saturating_sub(257));
     }
-    Asked::Names(own, want)
+    Ok(Asked { own, want })
 }
 
 // The index of a glyph.
+#[tactic(auto, unfolding(crate::specs::Post::index_of))]
 fn index_at(post: &[u8], g: u16) -> usize
     requires { 34 + 2 * g + 2 ≤ length post.now }
     ensures { (result ≡ index_of post.now g) × (result < 65536) }
 {
-    names::wide(read::u16_at(post, 34 + 2 * names::wide(g)))
+    usize::from(read::u16_at(post, 34 + 2 * usize::from(g)))
 }
 
 // Whether there may be far more names than glyphs: the table has over 32 bytes a glyph, where an index and a name take 15 or so. The
 // free half has room for few of them, and a lookup would pass dozens; an array of 8,192 numbers, if that is more, holds the index.
+#[tactic(auto, unfolding(crate::specs::Post::many_names))]
 fn many(len: usize, n: usize) -> bool
     requires { n ≤ 65536 }
     ensures { result ≡ many_names len n }
 {
-    if 4096 <= n {
-        return false;
-    }
-    32 * n < len
+    n < 4096 && 32 * n < len
 }
 
 // Whether the places that are found are put away for `write`: if few glyphs are kept there is room for them beside the index.
+#[tactic(auto, unfolding(crate::specs::Post::placed_for))]
 fn placed(len: usize, n: usize, kept: usize) -> bool
     requires { (kept ≤ 65535) × (n ≤ 65536) }
     ensures { result ≡ placed_for len n kept }
 {
-    if 4 * kept <= n {
-        return true;
-    }
-    many(len, n)
+    4 * kept <= n || many(len, n)
 }
 
 // The first of the scratch's places (two numbers each) that is for a found one, behind the index; or none is.
+#[tactic(auto, unfolding(crate::specs::Found::places_at))]
 fn places_at(placed: bool, n: usize, kept: usize) -> usize
     requires { (kept ≤ n) × (n ≤ 65536) }
     ensures { result ≡ places_at placed n kept }
 {
-    if placed {
-        return 2 * n - kept;
-    }
-    2 * n
+    if placed { 2 * n - kept } else { 2 * n }
 }
 
 // Where in the scratch begins what `write` goes by: the found places, or the index.
+#[tactic(auto, unfolding(crate::specs::Post::room_start))]
 fn room_start(placed: bool, n: usize, kept: usize) -> usize
     requires { (kept ≤ n) × (n ≤ 65536) }
     ensures { result ≡ room_start placed n kept }
 {
-    if placed {
-        return 4 * n - 2 * kept;
-    }
-    2 * n
+    if placed { 4 * n - 2 * kept } else { 2 * n }
 }
 
 // Finds the names and says how many bytes they will take.
@@ -191,11 +163,8 @@ fn find_names(post: &[u8], want: usize, scratch: &mut [u16], n: usize, kept: usi
         return find_among_many(post, want, scratch, n, kept);
     }
     let at = places_at(placed(post.len(), n, kept), n, kept);
-    let from = 2 * n;
-    let end = 2 * at;
-    names::fill(post, want, kept, &mut scratch[from..end]);
-    let none = [0u16; 0];
-    names_size(post, &none, scratch, n, kept, at)
+    names::fill(post, want, kept, &mut scratch[2 * n..2 * at]);
+    names_size(post, None, scratch, n, kept, at)
 }
 
 // The same with an index of its own, in a function of its own: elsewhere the array need not be cleared.
@@ -207,32 +176,30 @@ fn find_among_many(post: &[u8], want: usize, scratch: &mut [u16], n: usize, kept
 {
     let mut index = [0u16; 8192];
     names::fill(post, want, kept, &mut index);
-    names_size(post, &index, scratch, n, kept, 2 * n - kept)
+    names_size(post, Some(&index), scratch, n, kept, 2 * n - kept)
 }
 
-// How many bytes the stored names take. They are looked for in `own`, or, if that is empty, in the scratch in front of place `at`.
+// How many bytes the stored names take. They are looked for in an index of their own, or, with none, in the scratch in front of place `at`.
 fn names_size(
     post: &[u8],
-    own: &[u16],
+    own: Option<&[u16]>,
     scratch: &mut [u16],
     n: usize,
     kept: usize,
     at: usize,
 ) -> usize
     requires named { Named post.now (take kept scratch.old) × (length post.now ≤ 4294967295) }
-    requires index { Index post.now (index_for own.now scratch.old n at) }
+    requires index { Index post.now (index_for own scratch.old n at) }
     requires kept_bound { (kept ≤ 65535) × (kept ≤ n) × (n ≤ at) × (n ≤ 65536) × (at ≤ 2 * n) × (4 * n ≤ length scratch.old) }
     requires kept_bound_2 { at < 2 * n → at + kept ≤ 2 * n }
     ensures { (result ≡ length (flat_map (name_bytes post.now) (take kept scratch.old))) × Placing post.now n at kept scratch.old scratch.new }
 {
     let mut size: usize = 0;
     let mut chain: usize = 0;
-    let mut j = 0;
-    while j < kept {
+    for j in 0..kept {
         let named = name_size(post, own, scratch, n, at, chain, j);
-        size = size + named.size;
+        size += named.size;
         chain = named.chain;
-        j += 1;
     }
     size
 }
@@ -240,14 +207,14 @@ fn names_size(
 // How many bytes the name of roster place j takes, its length byte too: none if its index is 257 or below, one if it is missing.
 fn name_size(
     post: &[u8],
-    own: &[u16],
+    own: Option<&[u16]>,
     scratch: &mut [u16],
     n: usize,
     at: usize,
     chain: usize,
     j: usize,
 ) -> Name
-    requires index { Index post.now (index_for own.now scratch.old n at) × (length post.now ≤ 4294967295) }
+    requires index { Index post.now (index_for own scratch.old n at) × (length post.now ≤ 4294967295) }
     requires j_in_bounds { 34 + 2 * get_or scratch.old j 0 + 2 ≤ length post.now }
     requires j_lt_n { (j < n) × (n ≤ at) × (n ≤ 65536) × (at ≤ 2 * n) × (4 * n ≤ length scratch.old) }
     requires j_bound { at < 2 * n → at + j < 2 * n }
@@ -268,23 +235,21 @@ fn name_size(
 // Where name k stands, looked for in a chain first.
 fn look_up(
     post: &[u8],
-    own: &[u16],
+    own: Option<&[u16]>,
     scratch: &[u16],
     n: usize,
     at: usize,
     chain: usize,
     k: usize,
 ) -> names::Near
-    requires index { Index post.now (index_for own.now scratch.now n at) × (34 ≤ length post.now) }
+    requires index { Index post.now (index_for own scratch.now n at) × (34 ≤ length post.now) }
     requires n_le_at { (n ≤ at) × (at ≤ 131072) × (2 * at ≤ length scratch.now) }
     ensures { Stands post.now result.place k }
 {
-    if own.len() == 0 {
-        let from = 2 * n;
-        let end = 2 * at;
-        return names::name_near(post, &scratch[from..end], chain, k);
+    match own {
+        None => names::name_near(post, &scratch[2 * n..2 * at], chain, k),
+        Some(index) => names::name_near(post, index, chain, k),
     }
-    names::name_near(post, own, chain, k)
 }
 
 // The place found for roster place j, if places are put away.
@@ -299,13 +264,11 @@ fn put_away(post: &[u8], scratch: &mut [u16], n: usize, at: usize, j: usize, p: 
 }
 
 // A place as two numbers can say it: past the table there is nothing, and so at its end.
+#[tactic(auto, using(crate::proofs::Walk::stands_within))]
 fn within(post: &[u8], p: usize) -> usize
     ensures { (result ≤ length post.now) × ((k : ℕ) → Stands post.now p k → Stands post.now result k) }
 {
-    if post.len() < p {
-        return post.len();
-    }
-    p
+    p.min(post.len())
 }
 
 // "each stored name after its length byte."
@@ -316,8 +279,7 @@ fn write_cut(post: &[u8], ids: &[u16], room: &[u16], found: bool, out: &mut [u8]
     ensures { out.new ≡ over (post_bytes post.now ids.now) out.old }
 {
     write_head(post, ids, out);
-    let at = 34 + 2 * ids.len();
-    write_names(post, ids, room, found, &mut out[at..]);
+    write_names(post, ids, room, found, &mut out[34 + 2 * ids.len()..]);
 }
 
 // "Written: the old first 32 bytes, N, the indexes,"
@@ -338,15 +300,13 @@ fn write_indexes(post: &[u8], ids: &[u16], out: &mut [u8])
     ensures { out.new ≡ over (index_bytes post.now ids.now) out.old }
 {
     let mut next: usize = 258;
-    let mut j = 0;
-    while j < ids.len() {
-        let mut i = index_at(post, ids[j]);
+    for (j, g) in ids.iter().enumerate() {
+        let mut i = index_at(post, *g);
         if 257 < i {
             i = next;
             next += 1;
         }
         write::put_u16(out, 2 * j, i as u16);
-        j += 1;
     }
 }
 
@@ -358,10 +318,8 @@ fn write_names(post: &[u8], ids: &[u16], room: &[u16], found: bool, out: &mut [u
     ensures { out.new ≡ over (flat_map (name_bytes post.now) ids.now) out.old }
 {
     let mut at: usize = 0;
-    let mut j = 0;
-    while j < ids.len() {
-        at = put_name(post, room, found, j, ids[j], out, at);
-        j += 1;
+    for (j, g) in ids.iter().enumerate() {
+        at = put_name(post, room, found, j, *g, out, at);
     }
 }
 
@@ -390,8 +348,7 @@ fn put_name(
         out[at] = 0;
         return at + 1;
     }
-    let end = p + 1 + l;
-    write::copy(&post[p..end], out, at);
+    write::copy(&post[p..p + 1 + l], out, at);
     at + 1 + l
 }
 

@@ -21,7 +21,7 @@ pub fn size_at(post: &[u8], p: usize) -> usize
     if post.len() <= p {
         return 0;
     }
-    let l = post[p] as usize;
+    let l = usize::from(post[p]);
     let b = p + 1;
     if post.len() - b < l {
         return 0;
@@ -34,15 +34,13 @@ pub fn walk(post: &[u8], from: usize, steps: usize) -> usize
     ensures { result ≡ walked post.now from steps }
 {
     let mut p = from;
-    let mut i = 0;
-    while i < steps {
+    for _step in 0..steps {
         let l = size_at(post, p);
         if l == 0 {
             return p;
         }
         // p + 1 is at hand from size_at's test, so that a turn waits for one load and one sum
         p = p + 1 + l;
-        i += 1;
     }
     p
 }
@@ -68,29 +66,26 @@ fn fill_stride(post: &[u8], want: usize, room: &mut [u16])
 {
     let s = want / (room.len() / 2) + 1;
     let last = want / s;
-    let mut p = 34 + 2 * wide(read::u16_at(post, 32));
-    let mut j = 0;
-    while j < last {
+    let mut p = 34 + 2 * usize::from(read::u16_at(post, 32));
+    for j in 0..last {
         p = walk(post, p, s);
         set_place(room, j + 1, p);
-        j += 1;
     }
     room[0] = s as u16;
     room[1] = last as u16;
 }
 
 // Where name k stands, or where the list ended before it. With many lookups every name has its place, two numbers, and this is all
-// there is to do; what is done else stands apart, so that this stays short enough to be put into the loops that call it.
+// there is to do; what is done else stands apart, so that this stays short enough to be put into the loops that call it. And that
+// is called from two places: from one, LLVM puts it in here, and lookups and all took 1.05 to 1.1 times as many instructions.
 pub fn name_at(post: &[u8], room: &[u16], k: usize) -> usize
     requires index { Index post.now room.now }
     requires in_bounds { 34 ≤ length post.now }
     ensures { Stands post.now result k }
 {
-    if wide(room[0]) == 1 {
-        if 0 < k {
-            if k <= wide(room[1]) {
-                return place(room, k);
-            }
+    if room[0] == 1 {
+        if 0 < k && k <= usize::from(room[1]) {
+            return place(room, k);
         }
         return name_far(post, room, k);
     }
@@ -103,7 +98,7 @@ pub fn name_near(post: &[u8], room: &[u16], chain: usize, k: usize) -> Near
     requires in_bounds { 34 ≤ length post.now }
     ensures { Stands post.now result.place k }
 {
-    if wide(room[0]) == 0 {
+    if room[0] == 0 {
         return chains::name_near(post, room, chain, k);
     }
     Near {
@@ -117,7 +112,7 @@ fn name_far(post: &[u8], room: &[u16], k: usize) -> usize
     requires in_bounds { 34 ≤ length post.now }
     ensures { Stands post.now result k }
 {
-    let s = wide(room[0]);
+    let s = usize::from(room[0]);
     if s == 0 {
         return chains::name_at(post, room, k);
     }
@@ -129,9 +124,9 @@ fn name_by_stride(post: &[u8], room: &[u16], k: usize, s: usize) -> usize
     requires in_bounds { 34 ≤ length post.now }
     ensures { Stands post.now result k }
 {
-    let j = slot(k, s, wide(room[1]));
+    let j = slot(k, s, usize::from(room[1]));
     if j == 0 {
-        return walk(post, 34 + 2 * wide(read::u16_at(post, 32)), k);
+        return walk(post, 34 + 2 * usize::from(read::u16_at(post, 32)), k);
     }
     walk(post, place(room, j), k - j * s)
 }
@@ -141,34 +136,24 @@ fn slot(k: usize, s: usize, last: usize) -> usize
     requires { 0 < s }
     ensures { result ≡ min (k / s) last }
 {
-    let mut j = k;
-    if s != 1 {
-        j = k / s;
-    }
-    if last < j {
-        return last;
-    }
-    j
+    let j = if s == 1 { k } else { k / s };
+    j.min(last)
 }
 
 // Place j of the room, its low half first.
+#[tactic(auto, unfolding(crate::specs::Post::place_in))]
 pub fn place(room: &[u16], j: usize) -> usize
     requires { 2 * j + 1 < length room.now }
     ensures { (result ≡ place_in room.now j) × (result < 4294967296) }
 {
-    wide(room[2 * j]) + 65536 * wide(room[2 * j + 1])
+    usize::from(room[2 * j]) + 65536 * usize::from(room[2 * j + 1])
 }
 
+#[tactic(auto, unfolding(crate::specs::Post::with_place))]
 pub fn set_place(room: &mut [u16], j: usize, p: usize)
     requires { (2 * j + 1 < length room.old) × (p < 4294967296) }
     ensures { room.new ≡ with_place room.old j p }
 {
     room[2 * j] = (p % 65536) as u16;
     room[2 * j + 1] = (p / 65536) as u16;
-}
-
-pub fn wide(x: u16) -> usize
-    ensures { (result ≡ x) × (result < 65536) }
-{
-    x as usize
 }

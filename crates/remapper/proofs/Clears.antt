@@ -1,16 +1,8 @@
 -- A row is cleared when its numbers are zero, whether they were written or found; and zeros behind zeros are more zeros.
-use Prim.Native.Nat.{ℕ, zero, suc, ◌+◌, ◌*◌, ◌-◌, ◌%◌, ◌≤◌, ◌<◌}
-use mathlib.Core.Bool.{Bool, true, false}
-use mathlib.Core.List.{List, [], ◌∷◌}
-use mathlib.Core.Logic.{◌⊎◌, inl, inr}
-use mathlib.Core.Path.{◌≡◌, refl, sym, ap, ◌∙◌}
-use native.Mathlib.Omega.{arith}
-use lib.Bits.{bit_or, or_add_and, and_le_r, or_comm}
-use lib.ListN.{length, get_or, set, take, replicate, length-replicate, get_or-replicate, length-set, replicate-append-replicate}
-use lib.Seq.{ext_get_or, length-take-le, get_or-take, get_or-set_same, get_or-set_other}
-use lib.Dec.{ltb, leb, eqb}
-use borrow.Author.Tests.{leb-true, leb-false, ltb-true, ltb-false, eqb-true, eqb-false, ne_eqb}
-use borrow.Author.Count.{below_more}
+use Rattle.std.proofs.Common.{ℕ, zero, suc, ◌+◌, ◌*◌, ◌-◌, ◌%◌, ◌≤◌, ◌<◌, Bool, true, false, List, [], ◌∷◌, ◌⊎◌, inl, inr, ◌≡◌, refl, sym, ap, ◌∙◌, arith, bit_or, length, get_or, set, take, replicate, length-set, ext_get_or, length-take-le, get_or-take, get_or-set_same, get_or-set_other, ltb, leb, eqb, fold, leb-true, leb-false, ltb-true, ltb-false, eqb-true, ne_eqb, below_more}
+use lib.Bits.{or_add_and, and_le_r, or_comm}
+use lib.ListN.{length-replicate, get_or-replicate, replicate-append-replicate}
+use borrow.Author.Tests.{eqb-false}
 use Rattle.model.specs.Res.{pick, both}
 use Rattle.model.specs.Bytes.{put, member}
 use Rattle.model.proofs.Bytes.{length-put, put-put, get_or-put-before, get_or-put-after}
@@ -28,17 +20,25 @@ or_left a b = omega (arith, or_add_and a b, and_le_r a b)
 pub or_right : (a b : ℕ) → b ≤ bit_or a b
 or_right a b = omega (arith, or_comm a b, or_left b a)
 
-pub more-zeros : (d s s' : List ℕ) (at i k : ℕ) → at + (i + k) ≤ length d → s ≡ put d at (replicate i 0) → s' ≡ put s (at + i) (replicate k 0)
-    → (s' ≡ put d at (replicate (i + k) 0)) × (length s' ≡ length d)
-more-zeros d s s' at i k h e f = (all, ap (λ (t : List ℕ). length t) all ∙ length-put d at (replicate (i + k) 0) (omega (arith, length-replicate {A = ℕ} (i + k) 0)))
+-- and so are 0 only where each is
+pub zero-bits : (a : ℕ) (xs : List ℕ) → fold bit_or a xs ≡ 0 → (a ≡ 0) × ((j : ℕ) → j < length xs → get_or xs j 0 ≡ 0)
+zero-bits a [] e = (e, λ j h. absurd (omega arith))
+zero-bits a (x ∷ xs) e = go (zero-bits (bit_or a x) xs e)
   where
-    all : s' ≡ put d at (replicate (i + k) 0)
-    all =
-        f
-        ∙ ap (λ (t : List ℕ). put t (at + i) (replicate k 0)) e
-        ∙ ap (λ (x : ℕ). put (put d at (replicate i 0)) (at + x) (replicate k 0)) (sym (length-replicate {A = ℕ} i 0))
-        ∙ put-put d (replicate i 0) (replicate k 0) at (omega arith)
-        ∙ ap (put d at) (replicate-append-replicate i k 0)
+    go : (bit_or a x ≡ 0) × ((j : ℕ) → j < length xs → get_or xs j 0 ≡ 0) → (a ≡ 0) × ((j : ℕ) → j < length (x ∷ xs) → get_or (x ∷ xs) j 0 ≡ 0)
+    go rest = (omega (arith, or_left a x), at)
+      where
+        at : (j : ℕ) → j < length (x ∷ xs) → get_or (x ∷ xs) j 0 ≡ 0
+        at zero h = omega (arith, or_right a x)
+        at (suc j) h = rest.1 j (omega arith)
+
+pub more-zeros : (d s s' : List ℕ) (at i k : ℕ) → at + (i + k) ≤ length d → s ≡ put d at (replicate i 0) → s' ≡ put s (at + i) (replicate k 0) → s' ≡ put d at (replicate (i + k) 0)
+more-zeros d s s' at i k h e f =
+    f
+    ∙ ap (λ (t : List ℕ). put t (at + i) (replicate k 0)) e
+    ∙ ap (λ (x : ℕ). put (put d at (replicate i 0)) (at + x) (replicate k 0)) (sym (length-replicate {A = ℕ} i 0))
+    ∙ put-put d (replicate i 0) (replicate k 0) at (omega (arith, length-replicate {A = ℕ} i 0, length-replicate {A = ℕ} k 0))
+    ∙ ap (put d at) (replicate-append-replicate i k 0)
 
 -- numbers at every place make a list a `put`
 pub put-by-places : (d s bs : List ℕ) (i : ℕ) → length s ≡ length d → i + length bs ≤ length d
@@ -181,8 +181,7 @@ sparse_put {n} {kept} {base} {s} s' at k p e behind room apart =
     other (inr a) j h m = get_or-put-after s at (replicate k 0) j (omega arith) (omega (arith, size))
 
 -- zeros in front of zeros
-pub zeros-before : (d s s' : List ℕ) (at i k : ℕ) → at + (i + k) ≤ length d → s ≡ put d (at + i) (replicate k 0) → s' ≡ put s at (replicate i 0)
-    → (s' ≡ put d at (replicate (i + k) 0)) × (length s' ≡ length d)
+pub zeros-before : (d s s' : List ℕ) (at i k : ℕ) → at + (i + k) ≤ length d → s ≡ put d (at + i) (replicate k 0) → s' ≡ put s at (replicate i 0) → s' ≡ put d at (replicate (i + k) 0)
 zeros-before d s s' at i k h e f =
     more-zeros d (put d at (replicate i 0)) s' at i k h refl
     (f ∙ ap (λ (t : List ℕ). put t at (replicate i 0)) e ∙ sym (put-swap d at (replicate i 0) (at + i) (replicate k 0) (omega (arith, length-replicate {A = ℕ} i 0)) (omega (arith, length-replicate {A = ℕ} k 0))))

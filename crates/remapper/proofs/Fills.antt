@@ -1,11 +1,6 @@
--- Filling a row, a number a turn; and what the scratch holds once it is cleared behind the roster and glyph 0 is numbered.
-use Prim.Native.Nat.{ℕ, ◌+◌, ◌*◌, ◌-◌, ◌≤◌, ◌<◌}
-use mathlib.Core.List.{List, [], ◌∷◌, ◌++◌, append_assoc}
-use mathlib.Core.Path.{◌≡◌, refl, sym, ap, ◌∙◌, subst}
-use native.Mathlib.Omega.{arith}
-use native.Mathlib.Numerals.{add-one}
-use lib.ListN.{length, take, get_or, drop, set, replicate, length-drop, length-replicate, get_or-replicate}
-use lib.Seq.{paste, paste-suc, take-length, ext_get_or, get_or-drop}
+-- What the scratch holds once it is cleared behind the roster and glyph 0 is numbered.
+use Rattle.std.proofs.Common.{ℕ, ◌+◌, ◌*◌, ◌-◌, ◌≤◌, ◌<◌, List, [], ◌∷◌, ◌++◌, append_assoc, ◌≡◌, refl, sym, ap, ◌∙◌, subst, arith, length, take, get_or, drop, replicate, length-drop, ext_get_or, get_or-drop}
+use lib.ListN.{length-replicate, get_or-replicate}
 use Rattle.model.specs.Bytes.{put}
 use Rattle.model.proofs.Bytes.{length-put, get_or-put, get_or-put-after}
 use Rattle.model.proofs.Members.{clash, in_here, in_one}
@@ -13,15 +8,6 @@ use Rattle.remapper.specs.Scratch.{link, prev, next, started}
 use Rattle.remapper.specs.State.{Waits, Walking}
 use Rattle.remapper.proofs.Waiting.{waits-same}
 use Rattle.remapper.proofs.Numbering.{size-given, upper_given, past-given, rostered-given}
-
--- the first i numbers of xs are in their places
-pub fill_turn : (d xs s : List ℕ) (at i v : ℕ) → s ≡ paste d at xs i → at + length xs ≤ length d → i < length xs → v ≡ get_or xs i 0 → set s (at + i) v ≡ paste d at xs (i + 1)
-fill_turn d xs s at i v e h k q =
-    ap (λ (t : List ℕ). set t (at + i) v) e ∙ ap (set (paste d at xs i) (at + i)) q ∙ paste-suc d at xs i 0 (omega arith) k ∙ ap (paste d at xs) (sym (add-one i))
-
-pub fill_end : (d xs s : List ℕ) (at i : ℕ) → s ≡ paste d at xs i → i ≡ length xs → s ≡ put d at xs
-unfolding put
-fill_end d xs s at i e k = rw (e, k, take-length)
 
 -- what stands behind it stays
 pub drop-put : (d bs : List ℕ) (i k : ℕ) → i + length bs ≤ length d → i + length bs ≤ k → drop k (put d i bs) ≡ drop k d

@@ -1,17 +1,8 @@
 -- What is numbered. An id that gets the next number stands last in the roster, and its links don't matter any more; so a component is taken by
 -- unlinking and numbering it, a request by numbering it.
-use Prim.Native.Nat.{ℕ, suc, ◌+◌, ◌*◌, ◌≤◌, ◌<◌}
-use mathlib.Core.Bool.{true, false}
-use mathlib.Core.List.{List, [], ◌∷◌, ◌++◌}
-use mathlib.Core.Logic.{⊎_elim}
-use mathlib.Core.Path.{◌≡◌, refl, sym, ap, ◌∙◌, subst}
-use native.Mathlib.Omega.{arith}
-use native.Mathlib.Nat.{zero-add}
-use native.Mathlib.Numerals.{add-one}
-use lib.ListN.{length, get_or, take, drop, set, length-set, length-append}
-use lib.Seq.{get_or-set_same, get_or-set_other, take-set-le, take-suc-set, drop-set-lt, get_or-take, take-take, drop-drop}
-use lib.Dec.{eqb}
-use borrow.Author.Tests.{eqb-true, eqb-false, eq-eqb, ne_eqb}
+use Rattle.std.proofs.Common.{ℕ, suc, ◌+◌, ◌*◌, ◌≤◌, ◌<◌, true, false, List, [], ◌∷◌, ◌++◌, ⊎_elim, ◌≡◌, refl, sym, ap, ◌∙◌, subst, arith, zero-add, add-one, length, get_or, take, drop, set, length-set, length-append, get_or-set_same, get_or-set_other, take-suc-set, drop-set-lt, get_or-take, take-take, drop-drop, eqb, eqb-true, eq-eqb, ne_eqb}
+use lib.Seq.{take-set-le}
+use borrow.Author.Tests.{eqb-false}
 use Rattle.model.specs.Res.{pick}
 use Rattle.model.specs.Bytes.{member, place}
 use Rattle.model.proofs.Members.{In, by, clash, in_here, in_there, in_one, in_right, in_append, member-append, eqb_self}

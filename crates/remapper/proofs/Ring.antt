@@ -1,11 +1,6 @@
 -- A ring of links, over any previous and next links p and f: taking one out and putting one in.
-use Prim.Native.Nat.{ℕ, ◌<◌}
-use mathlib.Core.Bool.{false}
-use mathlib.Core.List.{List, [], ◌∷◌}
-use mathlib.Core.Logic.{◌⊎◌, inl, inr, ⊎_elim}
-use mathlib.Core.Path.{◌≡◌, refl, sym, ap, ◌∙◌, subst}
-use lib.Dec.{eqb}
-use borrow.Author.Tests.{eqb-true, eqb-false}
+use Rattle.std.proofs.Common.{ℕ, ◌<◌, false, List, [], ◌∷◌, ◌⊎◌, inl, inr, ⊎_elim, ◌≡◌, refl, sym, ap, ◌∙◌, subst, eqb, eqb-true}
+use borrow.Author.Tests.{eqb-false}
 use Rattle.model.specs.Bytes.{member}
 use Rattle.model.proofs.Members.{In, by, clash, in_here, in_there, in_cons, in_eq}
 use Rattle.model.proofs.Thin.{without}

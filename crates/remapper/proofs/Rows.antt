@@ -1,12 +1,7 @@
 -- What the stores do to the rows of the scratch: a link's store changes that link only.
-use Prim.Native.Nat.{ℕ, ◌+◌, ◌*◌, ◌-◌, ◌%◌, ◌≤◌, ◌<◌}
-use mathlib.Core.List.{List}
-use mathlib.Core.Path.{◌≡◌, refl, ap, ◌∙◌}
-use native.Mathlib.Omega.{arith}
-use lib.ListN.{length, get_or, take, drop, length-set}
-use lib.Seq.{get_or-set_same, get_or-set_other, take-set-le, drop-set-lt}
-use lib.Dec.{eqb}
-use borrow.Author.Tests.{eqb-true, eqb-false}
+use Rattle.std.proofs.Common.{ℕ, ◌+◌, ◌*◌, ◌-◌, ◌%◌, ◌≤◌, ◌<◌, List, ◌≡◌, refl, ap, ◌∙◌, arith, length, get_or, take, drop, length-set, get_or-set_same, get_or-set_other, drop-set-lt, eqb, eqb-true}
+use lib.Seq.{take-set-le}
+use borrow.Author.Tests.{eqb-false}
 use Rattle.model.proofs.Members.{by}
 use Rattle.remapper.specs.Scratch.{link, relinked, prev, next, unlinked, inserted}
 use Rattle.remapper.proofs.Ring.{Upd}

@@ -1,15 +1,7 @@
 -- What waits. Unlinking takes an id out of the ring, inserting puts one on its top; between the two the id's own links don't matter, as those
 -- of a numbered id don't: so the middle is a state too, with the id among those of the roster.
-use Prim.Native.Nat.{ℕ, ◌+◌, ◌*◌, ◌%◌, ◌<◌}
-use mathlib.Core.Bool.{false}
-use mathlib.Core.List.{List, [], ◌∷◌, ◌++◌}
-use mathlib.Core.Logic.{◌⊎◌, inl, inr, ⊎_elim}
-use mathlib.Core.Path.{◌≡◌, refl, sym, ap, ◌∙◌, subst}
-use native.Mathlib.Omega.{arith}
-use lib.ListN.{length, get_or, drop}
-use lib.Seq.{get_or-drop}
-use lib.Dec.{eqb}
-use borrow.Author.Tests.{eqb-true, eqb-false, eq-eqb, ne_eqb}
+use Rattle.std.proofs.Common.{ℕ, ◌+◌, ◌*◌, ◌%◌, ◌<◌, false, List, [], ◌∷◌, ◌++◌, ◌⊎◌, inl, inr, ⊎_elim, ◌≡◌, refl, sym, ap, ◌∙◌, subst, arith, length, get_or, drop, get_or-drop, eqb, eqb-true, ne_eqb}
+use borrow.Author.Tests.{eqb-false}
 use Rattle.model.specs.Bytes.{member}
 use Rattle.model.proofs.Members.{In, by, clash, in_here, in_there, in_cons, in_one, in_eq, in_left, in_right, in_append}
 use Rattle.model.proofs.Thin.{without}
@@ -292,12 +284,3 @@ waits-same n s s' r l e d v =
 
     on : (x : ℕ) → next n s' x ≡ next n s x
     on x = ap (λ (t : ℕ). (t + x) % 65536) (subst (λ (i : ℕ). get_or s' i 0 ≡ get_or s i 0) (far x) (read (n + x)))
-
--- the two cases of an offer
-pub offered-new : (n : ℕ) (s : List ℕ) (c : ℕ) → num n s c ≡ 0 → offered n s c ≡ moved n s c
-unfolding offered
-offered-new n s c e = rw (eq-eqb (num n s c) 0 e)
-
-pub offered-old : (n : ℕ) (s : List ℕ) (c : ℕ) → (num n s c ≡ 0 → ⊥) → offered n s c ≡ s
-unfolding offered
-offered-old n s c e = rw (ne_eqb (num n s c) 0 e)

@@ -1,11 +1,11 @@
 -- What the scratch holds: the roster with the ids' new numbers, and the components that wait.
-use Rattle.std.specs.Prelude.{ℕ, suc, ◌*◌, ◌<◌, false, List, [], ◌∷◌, ◌≡◌, length, take, drop, leb}
+use Rattle.std.specs.Prelude.{Result, Ok, Err, ℕ, suc, ◌*◌, ◌<◌, false, List, [], ◌∷◌, ◌≡◌, length, take, drop, leb}
 use Rattle.model.specs.Res.{Res, refuse, ok, pick}
 use Rattle.model.specs.Bytes.{member, place, In, Once}
 use Rattle.model.specs.Walk.{numbered, full}
 use Rattle.remapper.specs.Scratch.{num, prev, next, Linked}
-use Rattle.remapper.specs.declared.Count.{Count}
-use Rattle.remapper.specs.declared.Count.TheVariants.{Of, No}
+use Rattle.answer.specs.declared.Refusal.{Refusal}
+use Rattle.answer.specs.Answers.{number}
 
 -- an id's new number + 1, or 0
 abbrev pub number_in : List ℕ → ℕ → ℕ
@@ -47,12 +47,12 @@ abbrev pub asked : ℕ → List ℕ → ℕ → Res (List ℕ)
 asked n r q = pick (leb n q) (refuse 3) (pick (full r q) (refuse 7) (ok (numbered r q)))
 
 -- an answer's meaning, of the scratch s: so many of a roster, or the refusal
-abbrev pub Counts : ℕ → List ℕ → Count → Res (List ℕ) → Type 0
-Counts n s (Of k) (ok r) = Walking n s r [] × (k ≡ length r)
-Counts n s (Of k) (refuse j) = ⊥
-Counts n s (No k) (ok r) = ⊥
-Counts n s (No k) (refuse j) = k ≡ j
+abbrev pub Counts : ℕ → List ℕ → Result ℕ Refusal → Res (List ℕ) → Type 0
+Counts n s (Ok k) (ok r) = Walking n s r [] × (k ≡ length r)
+Counts n s (Ok k) (refuse j) = ⊥
+Counts n s (Err e) (ok r) = ⊥
+Counts n s (Err e) (refuse j) = number e ≡ j
 
-pub record Asked (n : ℕ) (s s' : List ℕ) (q count : ℕ) (a : Count) : Type 0 where
+pub record Asked (n : ℕ) (s s' : List ℕ) (q count : ℕ) (a : Result ℕ Refusal) : Type 0 where
   pub past : drop (4 * n) s' ≡ drop (4 * n) s
   pub counts : (r : List ℕ) → Walking n s r [] → count ≡ length r → Counts n s' a (asked n r q)

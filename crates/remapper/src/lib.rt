@@ -9,12 +9,7 @@ ghost use Rattle.model.specs.Bytes.{put};
 ghost use Rattle.remapper.specs.Scratch.{link, relinked, next, Linked, Sparse, Sweepable, unlinked, inserted, moved, offered, given, taken, started};
 ghost use Rattle.remapper.specs.State.{Numbering, Asked};
 
-// How many glyphs have a number, or the refusal.
-#[derive(Clone, Copy)]
-pub enum Count {
-    Of(usize),
-    No(u32),
-}
+use answer::Refusal;
 
 // So many glyphs can have a number: "numbering a 65,536th is 7".
 pub const MOST: usize = 65535;
@@ -24,9 +19,10 @@ fn get(s: &[u16], base: usize, g: usize) -> usize
     requires { base + g < length s.now }
     ensures { (result ≡ get_or s.now (base + g) 0) × (result < 65536) }
 {
-    s[base + g] as usize
+    usize::from(s[base + g])
 }
 
+// `as` stays: that v fits is asked, so that try_from's other case would never come.
 fn set(s: &mut [u16], base: usize, g: usize, v: usize)
     requires { (base + g < length s.old) × (v < 65536) }
     ensures { s.new ≡ set s.old (base + g) v }
@@ -34,7 +30,8 @@ fn set(s: &mut [u16], base: usize, g: usize, v: usize)
     s[base + g] = v as u16;
 }
 
-// g's link in the row that starts at base.
+// g's link in the row that starts at base. Ids are usize here and in the callers, and u16's wrapping_add with a cast on each side is no plainer.
+#[tactic(auto, unfolding(crate::specs::Scratch::link))]
 fn link(s: &[u16], base: usize, g: usize) -> usize
     requires { (base + g < length s.now) × (g < 65536) }
     ensures { (result ≡ link base s.now g) × (result < 65536) }
@@ -42,6 +39,7 @@ fn link(s: &[u16], base: usize, g: usize) -> usize
     (get(s, base, g) + g) % 65536
 }
 
+#[tactic(auto, unfolding(crate::specs::Scratch::relinked))]
 fn set_link(s: &mut [u16], base: usize, g: usize, v: usize)
     requires { (base + g < length s.old) × (g < 65536) × (v < 65536) }
     ensures { s.new ≡ relinked base s.old g v }
@@ -54,7 +52,7 @@ pub fn old_id(s: &[u16], k: usize) -> usize
     requires { k < length s.now }
     ensures { result ≡ get_or s.now k 0 }
 {
-    s[k] as usize
+    usize::from(s[k])
 }
 
 // The component that waits on top, or 0.
@@ -67,6 +65,7 @@ pub fn top(s: &[u16], n: usize) -> usize
 }
 
 // Joins c's neighbours.
+#[tactic(auto, unfolding(crate::specs::Scratch::unlinked))]
 fn unlink(s: &mut [u16], n: usize, c: usize)
     requires { (n ≤ 65536) × (c < n) × Linked n s.old }
     ensures { s.new ≡ unlinked n s.old c }
@@ -80,6 +79,7 @@ fn unlink(s: &mut [u16], n: usize, c: usize)
 }
 
 // Puts c on top: after glyph 0.
+#[tactic(auto, unfolding(crate::specs::Scratch::inserted))]
 fn insert(s: &mut [u16], n: usize, c: usize)
     requires { (n ≤ 65536) × (c < n) × Linked n s.old }
     ensures { s.new ≡ inserted n s.old c }
@@ -93,6 +93,7 @@ fn insert(s: &mut [u16], n: usize, c: usize)
     set_link(s, f, 0, c);
 }
 
+#[tactic(auto, unfolding(crate::specs::Scratch::moved))]
 fn move_top(s: &mut [u16], n: usize, c: usize)
     requires { (n ≤ 65536) × (c < n) × Linked n s.old }
     ensures { s.new ≡ moved n s.old c }
@@ -102,6 +103,7 @@ fn move_top(s: &mut [u16], n: usize, c: usize)
 }
 
 // "push its components that are unnumbered .. A component pushed again may move to the top".
+#[tactic(auto, unfolding(crate::specs::Scratch::offered))]
 pub fn offer(s: &mut [u16], n: usize, c: usize)
     requires { (n ≤ 65536) × (c < n) × Linked n s.old }
     ensures { s.new ≡ offered n s.old c }
@@ -112,6 +114,7 @@ pub fn offer(s: &mut [u16], n: usize, c: usize)
 }
 
 // q gets the number k.
+#[tactic(auto, unfolding(crate::specs::Scratch::given))]
 fn give(s: &mut [u16], n: usize, q: usize, k: usize)
     requires { (n ≤ 65536) × (q < n) × (k < n) × (k < 65535) × (4 * n ≤ length s.old) }
     ensures { s.new ≡ given n s.old q k }
@@ -121,6 +124,7 @@ fn give(s: &mut [u16], n: usize, q: usize, k: usize)
 }
 
 // The top component c leaves the ring and gets the number k.
+#[tactic(auto, unfolding(crate::specs::Scratch::taken))]
 pub fn take_top(s: &mut [u16], n: usize, c: usize, k: usize)
     requires { (n ≤ 65536) × (c < n) × (k < n) × (k < 65535) × Linked n s.old }
     ensures { s.new ≡ taken n s.old c k }
@@ -129,22 +133,22 @@ pub fn take_top(s: &mut [u16], n: usize, c: usize, k: usize)
     give(s, n, c, k);
 }
 
-// A request: "first appearances only; an id of n or more is 3; numbering a 65,536th, here or later, is 7".
-pub fn ask(s: &mut [u16], n: usize, q: usize, count: usize) -> Count
+// A request is numbered: how many then have a number. "First appearances only; an id of n or more is 3; numbering a 65,536th, here or later, is 7".
+pub fn ask(s: &mut [u16], n: usize, q: usize, count: usize) -> Result<usize, Refusal>
     requires { (n ≤ 65536) × Numbering n s.old count }
     ensures { Asked n s.old s.new q count result }
 {
     if n <= q {
-        return Count::No(3);
+        return Err(Refusal::MalformedFont);
     }
     if get(s, n, q) != 0 {
-        return Count::Of(count);
+        return Ok(count);
     }
     if MOST <= count {
-        return Count::No(7);
+        return Err(Refusal::TooManyGlyphs);
     }
     give(s, n, q, count);
-    Count::Of(count + 1)
+    Ok(count + 1)
 }
 
 // So many zeros.
@@ -152,11 +156,7 @@ pub fn zeros(s: &mut [u16], at: usize, count: usize)
     requires { at + count ≤ length s.old }
     ensures { s.new ≡ put s.old at (replicate count 0) }
 {
-    let mut i = 0;
-    while i < count {
-        s[at + i] = 0;
-        i += 1;
-    }
+    s[at..at + count].fill(0);
 }
 
 // The bits of so many numbers together: LLVM takes eight numbers at a time.
@@ -164,13 +164,7 @@ fn bits(s: &[u16], at: usize, count: usize) -> u16
     requires { at + count ≤ length s.now }
     ensures { result ≡ 0 → (j : ℕ) → j < count → get_or s.now (at + j) 0 ≡ 0 }
 {
-    let mut all = 0;
-    let mut i = 0;
-    while i < count {
-        all = all | s[at + i];
-        i += 1;
-    }
-    all
+    s[at..at + count].iter().fold(0, |all, x| all | *x)
 }
 
 // So many zeros, written unless they are there.
@@ -178,10 +172,9 @@ fn clear_block(s: &mut [u16], at: usize, count: usize)
     requires { at + count ≤ length s.old }
     ensures { s.new ≡ put s.old at (replicate count 0) }
 {
-    if bits(s, at, count) == 0 {
-        return;
+    if bits(s, at, count) != 0 {
+        zeros(s, at, count);
     }
-    zeros(s, at, count);
 }
 
 // The same, block by block. A scratch that is lent again is zero but for a roster, and to look takes half as long as to write; where it is
@@ -194,12 +187,12 @@ fn clear(s: &mut [u16], at: usize, count: usize)
         zeros(s, at, count);
         return;
     }
-    let mut i = 0;
-    while i + 512 <= count {
-        clear_block(s, at + i, 512);
-        i += 512;
+    let blocks = count / 512;
+    for k in 0..blocks {
+        clear_block(s, at + 512 * k, 512);
     }
-    zeros(s, at + i, count - i);
+    let done = 512 * blocks;
+    zeros(s, at + done, count - done);
 }
 
 // Zeros in the row that starts at base, of which only the ids of the roster have other numbers: a few are put back one by one.
@@ -211,11 +204,9 @@ fn clear_row(s: &mut [u16], n: usize, kept: usize, base: usize)
         zeros(s, base, n);
         return;
     }
-    let mut j = 0;
-    while j < kept {
-        let g = s[j] as usize;
+    for j in 0..kept {
+        let g = usize::from(s[j]);
         s[base + g] = 0;
-        j += 1;
     }
 }
 
@@ -244,6 +235,7 @@ pub fn sweep(s: &mut [u16], n: usize, kept: usize, written: bool)
 }
 
 // "Glyph 0 gets number 0", and nothing waits.
+#[tactic(auto, unfolding(crate::specs::Scratch::started))]
 pub fn start(s: &mut [u16], n: usize)
     requires { (0 < n) × (n ≤ 65536) × (4 * n ≤ length s.old) }
     ensures { s.new ≡ started n s.old }

@@ -2,12 +2,12 @@
 // the crate answered: the answer, every byte of the output and every place of the scratch, those that must not change among them.
 #![tactic(auto)]
 
-use answer::Answer;
+use answer::{CutError, Font, Refusal};
 use std::fs::File;
-use std::io;
 use std::io::Read;
+use std::{array, io};
 
-// A record's head: the question's sizes, and the answer expected.
+// A record's head: the question's sizes, and the answer expected, if the record's three words for it are an answer.
 #[derive(Clone, Copy)]
 struct Question {
     index: u32,
@@ -15,9 +15,7 @@ struct Question {
     scratch: usize,
     out: usize,
     font: usize,
-    refusal: u32,
-    kept: usize,
-    length: usize,
+    expected: Option<Result<Font, CutError>>,
     set: usize,
 }
 
@@ -28,10 +26,35 @@ fn read_head(head: &[u8]) -> Question {
         scratch: records::size(head, 8),
         out: records::size(head, 12),
         font: records::size(head, 16),
-        refusal: records::word(head, 20),
-        kept: records::size(head, 24),
-        length: records::size(head, 28),
+        expected: read_answer(
+            records::word(head, 20),
+            records::size(head, 24),
+            records::size(head, 28),
+        ),
         set: records::size(head, 32),
+    }
+}
+
+// "A refusal reports N = 0 and length 0, but 6 reports the length needed."
+fn read_answer(number: u32, kept: usize, length: usize) -> Option<Result<Font, CutError>> {
+    match (number, kept, length) {
+        (0, _, _) => Some(Ok(Font { kept, length })),
+        (6, 0, needed) => Some(Err(CutError::OutputTooShort { needed })),
+        (number, 0, 0) => Some(Err(CutError::Refused(read_refusal(number)?))),
+        _ => None,
+    }
+}
+
+fn read_refusal(number: u32) -> Option<Refusal> {
+    match number {
+        1 => Some(Refusal::UnknownKind),
+        2 => Some(Refusal::NotTrueType),
+        3 => Some(Refusal::MalformedFont),
+        4 => Some(Refusal::NameOutsideStorage),
+        5 => Some(Refusal::Overflow),
+        7 => Some(Refusal::TooManyGlyphs),
+        8 => Some(Refusal::ScratchTooShort),
+        _ => None,
     }
 }
 
@@ -44,125 +67,66 @@ fn byte_before(i: usize) -> u8 {
     (i % 253 + 1) as u8
 }
 
-fn fill_places(scratch: &mut [u16]) {
-    let mut i = 0;
-    while i < scratch.len() {
-        scratch[i] = place_before(i);
-        i += 1;
-    }
-}
-
-fn fill_bytes(out: &mut [u8]) {
-    let mut i = 0;
-    while i < out.len() {
-        out[i] = byte_before(i);
-        i += 1;
-    }
-}
-
-// Is the answer the one expected.
-fn answers(a: Answer, q: Question) -> bool {
-    match a {
-        Answer::Font { kept, length } => q.refusal == 0 && kept == q.kept && length == q.length,
-        Answer::No(k) => q.refusal == k && q.kept == 0 && q.length == 0,
-        Answer::Short(needed) => q.refusal == 6 && q.kept == 0 && q.length == needed,
-    }
-}
-
-// The call, lent just what the question says.
+// The call, lent just what the question says; whether the answer is the one expected.
 fn call(q: Question, font: &[u8], ids: &[u16], scratch: &mut [u16], out: &mut [u8]) -> bool {
-    let f = q.font;
-    let i = q.ids;
-    let s = q.scratch;
-    let o = q.out;
-    if font.len() < f {
+    let Some(scratch) = scratch.get_mut(..q.scratch) else {
         return false;
-    }
-    if ids.len() < i {
+    };
+    let Some(out) = out.get_mut(..q.out) else {
         return false;
-    }
-    if scratch.len() < s {
-        return false;
-    }
-    if out.len() < o {
-        return false;
-    }
-    let a = subset::subset(
-        &font[..f],
-        q.index,
-        &ids[..i],
-        &mut scratch[..s],
-        &mut out[..o],
-    );
-    answers(a, q)
+    };
+    Some(subset::subset(font, q.index, ids, scratch, out)) == q.expected
 }
 
 // "its first N places are the roster; the others of the first 4n are zero. Places past 4n never change."
-fn place_after(roster: &[u16], n: usize, set: usize, i: usize) -> u16 {
-    if i < n && i < roster.len() {
-        return roster[i];
+fn place_after(roster: &[u16], set: usize, i: usize) -> u16 {
+    match roster.get(i) {
+        Some(id) => *id,
+        None if i < set => 0,
+        None => place_before(i),
     }
-    if i < set {
-        return 0;
-    }
-    place_before(i)
 }
 
 // "the file at the start of the output, the rest of it unchanged"
-fn byte_after(file: &[u8], n: usize, i: usize) -> u8 {
-    if i < n && i < file.len() {
-        return file[i];
+fn byte_after(file: &[u8], i: usize) -> u8 {
+    match file.get(i) {
+        Some(byte) => *byte,
+        None => byte_before(i),
     }
-    byte_before(i)
-}
-
-fn same_places(scratch: &[u16], roster: &[u16], n: usize, set: usize) -> bool {
-    let mut i = 0;
-    while i < scratch.len() {
-        if scratch[i] != place_after(roster, n, set, i) {
-            return false;
-        }
-        i += 1;
-    }
-    true
-}
-
-fn same_bytes(out: &[u8], file: &[u8], n: usize) -> bool {
-    let mut i = 0;
-    while i < out.len() {
-        if out[i] != byte_after(file, n, i) {
-            return false;
-        }
-        i += 1;
-    }
-    true
 }
 
 // Only a success has a roster and a file.
-fn given(refusal: u32, n: usize) -> usize {
-    if refusal == 0 { n } else { 0 }
-}
-
 fn compare<R: Read>(file: &mut R, q: Question, scratch: &[u16], out: &[u8]) -> io::Result<bool> {
     let mut roster = [0u16; 8192];
     let mut bytes = [0u8; 32768];
-    let n = given(q.refusal, q.kept);
-    let l = given(q.refusal, q.length);
-    if !records::take_numbers(file, n, &mut roster)? {
+    let (kept, length) = match q.expected {
+        Some(Ok(font)) => (font.kept, font.length),
+        _ => (0, 0),
+    };
+    if !records::take_numbers(file, kept, &mut roster)? {
         return Ok(false);
     }
-    if !records::take_bytes(file, l, &mut bytes)? {
+    if !records::take_bytes(file, length, &mut bytes)? {
         return Ok(false);
     }
-    Ok(same_places(scratch, &roster, n, q.set) && same_bytes(out, &bytes, l))
+    let roster = &roster[..kept];
+    let bytes = &bytes[..length];
+    Ok(
+        scratch
+            .iter()
+            .enumerate()
+            .all(|(i, x)| *x == place_after(roster, q.set, i))
+            && out
+                .iter()
+                .enumerate()
+                .all(|(i, x)| *x == byte_after(bytes, i)),
+    )
 }
 
 // The rest of the record is read in any case, so that the next one starts where it should.
 fn judge<R: Read>(file: &mut R, q: Question, font: &[u8], ids: &[u16]) -> io::Result<bool> {
-    let mut scratch = [0u16; 8192];
-    let mut out = [0u8; 32768];
-    fill_places(&mut scratch);
-    fill_bytes(&mut out);
+    let mut scratch: [u16; 8192] = array::from_fn(place_before);
+    let mut out: [u8; 32768] = array::from_fn(byte_before);
     let told = call(q, font, ids, &mut scratch, &mut out);
     let alike = compare(file, q, &scratch, &out)?;
     Ok(alike && told)
@@ -177,7 +141,7 @@ fn ask<R: Read>(file: &mut R, q: Question) -> io::Result<bool> {
     if !records::take_bytes(file, q.font, &mut font)? {
         return Ok(false);
     }
-    judge(file, q, &font, &ids)
+    judge(file, q, &font[..q.font], &ids[..q.ids])
 }
 
 // The next record.
@@ -195,13 +159,11 @@ fn count<R: Read>(file: &mut R) -> io::Result<u32> {
 }
 
 fn differing<R: Read>(file: &mut R, answers: u32) -> io::Result<u32> {
-    let mut differ: u32 = 0;
-    let mut k = 0;
-    while k < answers {
+    let mut differ = 0;
+    for _k in 0..answers {
         if !same(file)? {
             differ += 1;
         }
-        k += 1;
     }
     Ok(differ)
 }

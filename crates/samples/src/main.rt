@@ -3,7 +3,9 @@
 // behind it, then a label of 32 bytes, the ids and the font.
 #![tactic(auto)]
 
-use answer::Answer;
+ghost use Rattle.std.specs.Prelude.{◌≡◌, ◌≤◌, length};
+
+use answer::{CutError, Font};
 use std::fs::File;
 use std::io;
 use std::io::{Read, Write};
@@ -18,151 +20,100 @@ struct Sample {
 fn read_sample<F: Read>(file: &mut F) -> io::Result<Sample> {
     let mut head = [0u8; 12];
     let n = records::read_full(file, &mut head)?;
+    let head = &head[..n];
     Ok(Sample {
-        ids: records::size(&head[..n], 0),
-        font: records::size(&head[..n], 4),
-        repeat: records::size(&head[..n], 8),
+        ids: records::size(head, 0),
+        font: records::size(head, 4),
+        repeat: records::size(head, 8),
     })
 }
 
-fn print<R: Print>(rt: &R, text: &[u8]) -> io::Result<()> {
-    io::writer(rt).write_all(text)
-}
-
-fn print_number<R: Print>(rt: &R, n: usize) -> io::Result<()> {
-    print!(rt; "{n}")
-}
-
+// The label is bytes of the file, whether or not they are text.
 fn print_label<R: Print, F: Read>(rt: &R, file: &mut F) -> io::Result<()> {
     let mut label = [0u8; 32];
     let n = records::read_full(file, &mut label)?;
-    print(rt, &label[..n])
+    io::writer(rt).write_all(&label[..n])
 }
 
 // The bytes from `from` to `to` are the twelve before them, again and again.
-fn repeat(font: &mut [u8], from: usize, to: usize) {
-    if font.len() < to {
-        return;
-    }
-    if from < 12 {
-        return;
-    }
-    let mut i = from;
-    while i < to {
+fn repeat(font: &mut [u8], from: usize, to: usize)
+    requires from_in { 12 ≤ from }
+    requires to_in { to ≤ length font.old }
+    ensures { length font.new ≡ length font.old }
+{
+    for i in from..to {
         font[i] = font[i - 12];
-        i += 1;
     }
-}
-
-fn print_next<R: Print>(rt: &R, n: usize) -> io::Result<()> {
-    print(rt, b" ")?;
-    print_number(rt, n)
-}
-
-fn print_id<R: Print>(rt: &R, id: u16) -> io::Result<()> {
-    print_next(rt, id as usize)
-}
-
-fn print_roster<R: Print>(rt: &R, scratch: &[u16], kept: usize) -> io::Result<()> {
-    let mut i = 0;
-    while i < scratch.len() && i < kept {
-        print_id(rt, scratch[i])?;
-        i += 1;
-    }
-    Ok(())
 }
 
 // Where name's storage starts, if the font has seven tables: name is the last of them.
 fn print_storage<R: Print>(rt: &R, out: &[u8]) -> io::Result<()> {
-    if records::word(out, 4) / 65536 == 7 {
-        print(rt, b", storage at ")?;
-        print_number(
-            rt,
-            (records::word(out, records::size(out, 116) + 4) / 65536) as usize,
-        )?;
+    if half(out, 4) == 7 {
+        print!(rt; ", storage at {}", half(out, records::size(out, 116) + 4))?;
     }
     Ok(())
 }
 
-fn print_half<R: Print>(rt: &R, out: &[u8], at: usize) -> io::Result<()> {
-    print_next(rt, (records::word(out, at) / 65536) as usize)
+fn half(out: &[u8], at: usize) -> u32 {
+    records::word(out, at) / 65536
 }
 
 // A number of each directory record: the one that stands at `at` in the first.
 fn print_rows<R: Print>(rt: &R, out: &[u8], tables: u32, at: u32) -> io::Result<()> {
-    let mut k = 0;
-    while k < tables {
-        print_next(rt, records::size(out, 16 * (k as usize) + (at as usize)))?;
-        k += 1;
+    for k in 0..tables {
+        print!(rt; " {}", records::word(out, 16 * k as usize + at as usize))?;
     }
     Ok(())
 }
 
 // The three search words and each table's length, by tag; of the font made for them, with 9 tables, the checksums too.
 fn print_directory<R: Print>(rt: &R, out: &[u8]) -> io::Result<()> {
-    let tables = records::word(out, 4) / 65536;
-    print(rt, b"; search")?;
-    print_half(rt, out, 6)?;
-    print_half(rt, out, 8)?;
-    print_half(rt, out, 10)?;
-    print(rt, b"; lengths")?;
+    let tables = half(out, 4);
+    print!(rt;
+        "; search {} {} {}; lengths",
+        half(out, 6),
+        half(out, 8),
+        half(out, 10)
+    )?;
     print_rows(rt, out, tables, 24)?;
     if tables == 9 {
-        print(rt, b"; sums")?;
+        print!(rt; "; sums")?;
         print_rows(rt, out, tables, 16)?;
     }
     Ok(())
 }
 
 // Success: the roster, and what the font's own numbers say.
-fn print_font<R: Print>(
-    rt: &R,
-    kept: usize,
-    length: usize,
-    scratch: &[u16],
-    out: &[u8],
-) -> io::Result<()> {
-    print(rt, b"kept ")?;
-    print_number(rt, kept)?;
-    print(rt, b" length ")?;
-    print_number(rt, length)?;
-    print(rt, b":")?;
-    print_roster(rt, scratch, kept)?;
+fn print_font<R: Print>(rt: &R, font: Font, scratch: &[u16], out: &[u8]) -> io::Result<()> {
+    print!(rt; "kept {} length {}:", font.kept, font.length)?;
+    for id in scratch.iter().take(font.kept) {
+        print!(rt; " {id}")?;
+    }
     print_storage(rt, out)?;
     print_directory(rt, out)
 }
 
-fn print_refused<R: Print>(rt: &R, k: u32) -> io::Result<()> {
-    print(rt, b"refused ")?;
-    print_number(rt, k as usize)
-}
-
-fn print_answer<R: Print>(rt: &R, a: Answer, scratch: &[u16], out: &[u8]) -> io::Result<()> {
-    match a {
-        Answer::Font { kept, length } => print_font(rt, kept, length, scratch, out)?,
-        Answer::No(k) => print_refused(rt, k)?,
-        Answer::Short(_) => print_refused(rt, 6)?,
+fn print_answer<R: Print>(
+    rt: &R,
+    answer: Result<Font, CutError>,
+    scratch: &[u16],
+    out: &[u8],
+) -> io::Result<()> {
+    match answer {
+        Ok(font) => print_font(rt, font, scratch, out)?,
+        Err(refusal) => print!(rt; "refused {}", refusal.number())?,
     }
-    print(rt, b"\n")
+    println!(rt; "")
 }
 
 fn run<R: Print>(rt: &R, font: &[u8], ids: &[u16]) -> io::Result<()> {
     let mut scratch = [0u16; 8192];
     let mut out = [0u8; 132096];
-    let a = subset::subset(font, 0, ids, &mut scratch, &mut out);
-    print_answer(rt, a, &scratch, &out)
+    let answer = subset::subset(font, 0, ids, &mut scratch, &mut out);
+    print_answer(rt, answer, &scratch, &out)
 }
 
-fn run_parts<R: Print>(rt: &R, font: &[u8], f: usize, ids: &[u16], i: usize) -> io::Result<()> {
-    if font.len() < f {
-        return Ok(());
-    }
-    if ids.len() < i {
-        return Ok(());
-    }
-    run(rt, &font[..f], &ids[..i])
-}
-
+// A sample that has no place here prints its label alone.
 fn run_sample<R: Print, F: Read>(rt: &R, file: &mut F, s: Sample) -> io::Result<()> {
     let mut ids = [0u16; 8];
     let mut font = [0u8; 132096];
@@ -173,15 +124,17 @@ fn run_sample<R: Print, F: Read>(rt: &R, file: &mut F, s: Sample) -> io::Result<
     if !records::take_bytes(file, s.font, &mut font)? {
         return Ok(());
     }
-    if s.repeat > 10921 {
-        return Ok(());
-    }
-    if s.font > 65536 {
+    if s.repeat > 10921 || s.font > 65536 {
         return Ok(());
     }
     let end = s.font + 12 * s.repeat;
-    repeat(&mut font, s.font, end);
-    run_parts(rt, &font, end, &ids, s.ids)
+    if font.len() < end {
+        return Ok(());
+    }
+    if s.font >= 12 {
+        repeat(&mut font, s.font, end);
+    }
+    run(rt, &font[..end], &ids[..s.ids])
 }
 
 fn count<F: Read>(file: &mut F) -> io::Result<u32> {
@@ -191,11 +144,9 @@ fn count<F: Read>(file: &mut F) -> io::Result<u32> {
 }
 
 fn run_all<R: Print, F: Read>(rt: &R, file: &mut F, samples: u32) -> io::Result<()> {
-    let mut k = 0;
-    while k < samples {
+    for _ in 0..samples {
         let s = read_sample(file)?;
         run_sample(rt, file, s)?;
-        k += 1;
     }
     Ok(())
 }

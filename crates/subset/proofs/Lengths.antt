@@ -14,7 +14,7 @@ use Rattle.model.specs.File.{entries, file}
 use Rattle.model.proofs.Res.{true_false}
 use Rattle.model.proofs.Members.{by}
 use Rattle.places.specs.declared.Tables.{Tables as Places}
-use Rattle.places.specs.Places.{place_at}
+use Rattle.places.specs.Places.{place_at, present_at}
 use Rattle.construct.specs.Construct.{raised, count_to, start_at, directory_length, laid_out}
 use Rattle.plan.specs.declared.Plan.{Plan}
 use Rattle.plan.specs.Steps.{renewed, tables_of, there?, bytes_in}
@@ -41,7 +41,7 @@ module _ (d : ℕ) (t : Places) where
       same n k e = rw e (omega arith)
 
   -- a table that is there ends before the next one starts
-  table_ends : (k : ℕ) → (place_at t k).present ≡ true → (place_at t k).length ≤ start_at d t (suc k)
+  table_ends : (k : ℕ) → present_at t k ≡ true → (place_at t k).length ≤ start_at d t (suc k)
   unfolding start_at raised
   table_ends k e = rw e (omega arith)
 
@@ -54,6 +54,6 @@ unfolding laid_out
 file-holds t r p f long k h =
     let d = directory_length (count_to p.sized 11) in
     let o = get_or (tables_of (renewed t r)) k none in
-    by (place_at p.sized k).present
+    by (present_at p.sized k)
     (λ e. omega (arith, file-length t r p f long, table_ends d p.sized k e, start-grows d p.sized 11 (suc k) h))
     (λ e. omega (arith, (f.sized k h).1, absent-empty o (sym (f.sized k h).0 ∙ e)))

@@ -4,3 +4,4 @@ pub mod Cutting
 pub mod Scratch
 pub mod Lengths
 pub mod Whole
+pub mod Ways

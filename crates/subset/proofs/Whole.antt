@@ -5,27 +5,30 @@ use mathlib.Core.Option.{none, some}
 use mathlib.Core.List.{List, [], ◌∷◌, ◌++◌}
 use Prim.Native.Nat.{ℕ, ◌*◌, ◌-◌, ◌≤◌, ◌<◌}
 use native.Mathlib.Omega.{arith}
+use native.Mathlib.Nat.{sub-zero}
 use lib.Dec.{leb}
 use lib.ListN.{length, drop, replicate}
-use borrow.Author.Tests.{eq-eqb, ne_eqb}
-use Rattle.model.specs.Res.{Res, refuse, ok, pick, ◌>>=◌}
+use Rattle.model.specs.Res.{Res, refuse, ok, pick, is_ok, ◌>>=◌}
 use Rattle.model.specs.Bytes.{Bytes, word32, put}
 use Rattle.model.specs.Font.{Tables, Entry, read, face_start, directory, gather, usable, find, must, GLYF, LOCA, HEAD, HHEA, HMTX, MAXP}
 use Rattle.model.specs.Glyf.{width_of}
 use Rattle.model.specs.File.{entries, file}
 use Rattle.model.specs.Cut.{count, closure, cut_tables}
 use Rattle.model.specs.Call.{Input, Made, Promise, ready, made, last, answer, places_from, Answer as Answers}
-use Rattle.model.proofs.Res.{pick_true, pick_false, bind_inv, need_inv, ok_inj}
+use Rattle.model.proofs.Res.{true_false, bind_inv, need_inv, ok_inj}
 use Rattle.model.proofs.Members.{by, in_under}
 use Rattle.model.proofs.Closure.{closure-roster}
 use Rattle.model.proofs.Chosen.{pigeons}
 use Rattle.model.proofs.Must.{must_inv}
-use Rattle.answer.specs.declared.Answer.{Answer}
-use Rattle.answer.specs.declared.Answer.TheVariants as case
-use Rattle.answer.specs.Answers.{answer_of}
+use Rattle.std.specs.Prelude.{Result, Ok, Err}
+use Rattle.answer.specs.declared.Refusal.{Refusal}
+use Rattle.answer.specs.declared.Refusal.TheVariants.{ScratchTooShort}
+use Rattle.answer.specs.declared.CutError.{CutError}
+use Rattle.answer.specs.declared.CutError.TheVariants.{Refused, OutputTooShort}
+use Rattle.answer.specs.declared.Font.{Font}
+use Rattle.answer.specs.Answers.{number, answer_of}
 use Rattle.places.specs.declared.Tables.{Tables as Places}
-use Rattle.places.specs.Places.{place_at, content_at, option_at, contents}
-use Rattle.face.specs.declared.Face.{Face}
+use Rattle.places.specs.Places.{present_at, content_at, option_at, contents, Within}
 use Rattle.face.specs.Opening.{Opened}
 use Rattle.closure.proofs.Final.{glyphs-small}
 use Rattle.plan.specs.declared.Source.{Source}
@@ -52,7 +55,7 @@ gathered es t e =
       maxp = (must_inv 3 6 (find MAXP es) g.value g.first).1;
     })
 
-pub read-long : (font : Bytes) (index : ℕ) (t : Tables) → read font index ≡ ok t → Long t
+read-long : (font : Bytes) (index : ℕ) (t : Tables) → read font index ≡ ok t → Long t
 unfolding read
 read-long font index t e =
     let a = bind_inv (face_start font index) _ t e in
@@ -74,24 +77,24 @@ roster-few t ids v e =
     let r = closure-roster t ids v.roster (roster-closed t ids v e) in
     pigeons (count t) v.roster r.once (in_under (count t) v.roster r.within)
 
-module _ (font : Bytes) (s : Source) (o : Opens font s) (ids before after : List ℕ) (d e : Bytes) (a : Answer) (v : Cuts (font_of font s) ids s.n before after d e a) where
-  pub roster-room : (w : Made) → made (font_of font s) ids ≡ ok w → length w.roster ≤ 4 * s.n
+module _ (font : Bytes) (s : Source) (o : Opens font s) (ids before after : List ℕ) (d e : Bytes) (a : Result Font CutError) (v : Cuts (font_of font s) ids s.n before after d e a) where
+  roster-room : (w : Made) → made (font_of font s) ids ≡ ok w → length w.roster ≤ 4 * s.n
   roster-room w q = omega (arith, o.number, roster-few (font_of font s) ids w q)
 
   -- a roster was answered, so its font was made, and what the walk left is known
-  pub kept-sweepable : (kept : ℕ) → kept ≡ (answer_of a).kept → (kept ≡ 0 → ⊥) → (written : Bool) → (written ≡ false → Unnamed (font_of font s).post) → Sweepable s.n after kept written
-  kept-sweepable kept k there written u = go (made (font_of font s) ids) refl
+  kept-sweepable : (f : Font) → a ≡ Ok f → (written : Bool) → (written ≡ false → Unnamed (font_of font s).post) → Sweepable s.n after f.kept written
+  kept-sweepable f is written u = go (made (font_of font s) ids) refl
     where
-      is_last : kept ≡ (last (length d) (made (font_of font s) ids)).kept
-      is_last = k ∙ ap (λ (x : Answers). x.kept) v.answers
+      is_last : answer_of (Ok f) ≡ last (length d) (made (font_of font s) ids)
+      is_last = ap answer_of (sym is) ∙ v.answers
 
-      go : (m : Res Made) → made (font_of font s) ids ≡ m → Sweepable s.n after kept written
-      go (refuse j) q = absurd (there (is_last ∙ ap (λ (m : Res Made). (last (length d) m).kept) q))
+      go : (m : Res Made) → made (font_of font s) ids ≡ m → Sweepable s.n after f.kept written
+      go (refuse j) q = true_false (sym (v.done f is) ∙ ap is_ok q)
       go (ok w) q =
-          let e = is_last ∙ ap (λ (m : Res Made). (last (length d) m).kept) q in
+          let e = is_last ∙ ap (last (length d)) q in
           by (leb (length w.bytes) (length d))
-          (λ t. subst (λ (n : ℕ). Sweepable s.n after n written) (sym (rw t at e)) (v.sweepable w q written u))
-          (λ t. absurd (there (rw t at e)))
+          (λ t. subst (λ (n : ℕ). Sweepable s.n after n written) (sym (ap (λ (x : Answers). x.kept) (rw t at e))) (v.sweepable w q written u))
+          (λ t. let z : 0 ≡ 6 = ap (λ (x : Answers). x.refusal) (rw t at e) in absurd (omega arith))
 
 -- a table of no bytes has no names
 pub nothing-named : (b : Bytes) → length b ≡ 0 → word32 b 0 ≡ 0x00020000 → ⊥
@@ -101,39 +104,63 @@ nothing-named (x ∷ xs) e v = absurd (omega arith)
 -- what stands where post would is not of version 2: then there are no names
 pub post-unnamed : (font : Bytes) (t : Places) → (word32 (content_at font t 9) 0 ≡ 0x00020000 → ⊥) → Unnamed (contents font t).post
 unfolding contents option_at
-post-unnamed font t u = go (place_at t 9).present
+post-unnamed font t u = go (present_at t 9)
   where
     go : (present : Bool) → Unnamed (pick present (some (content_at font t 9)) none)
     go true = u
     go false = tt
 
-module _ (font : Bytes) (index : ℕ) (f : Face) (o : Opened font index f) where
-  pub opened-refused : (f.refusal ≡ 0 → ⊥) → read font index ≡ refuse f.refusal
-  opened-refused n = sym o.reads ∙ pick_false _ _ _ (ne_eqb f.refusal 0 n) refl
-
-  pub opened-read : f.refusal ≡ 0 → read font index ≡ ok (contents font f.tables)
-  opened-read e = sym o.reads ∙ pick_true _ _ _ (eq-eqb f.refusal 0 e) refl
+-- an error has no roster
+none_kept : (e : CutError) → 0 ≡ (answer_of (Err e)).kept
+none_kept (Refused r) = refl
+none_kept (OutputTooShort needed) = refl
 
 module _ (font : Bytes) (index : ℕ) (ids scratch : List ℕ) (out : Bytes) where
-  pub refused-early : (k : ℕ) → read font index ≡ refuse k → Promise (lent font index ids scratch out) (answer_of (case.No k)) out scratch
-  refused-early k e = not-ready (lent font index ids scratch out) k (read-refuses (lent font index ids scratch out) k e)
+  abbrev x : Input
+  x = lent font index ids scratch out
 
-  module _ (s : Source) (r : read font index ≡ ok (font_of font s)) (o : Opens font s) where
-    pub refused-short : length scratch < 4 * s.n → Promise (lent font index ids scratch out) (answer_of (case.No 8)) out scratch
-    refused-short h =
-        not-ready (lent font index ids scratch out) 8
-        (scratch-short (lent font index ids scratch out) (font_of font s) r (subst (λ (n : ℕ). length scratch < 4 * n) o.number h))
+  pub refused-early : (r : Refusal) → refuse (number r) ≡ read font index → Promise x (answer_of (Err (Refused r))) out scratch
+  refused-early r e = not-ready x (number r) (read-refuses x (number r) (sym e))
 
-    pub cut-cleared : (after : List ℕ) (e : Bytes) (a : Answer) → Cuts (font_of font s) ids s.n scratch after out e a → 4 * s.n ≤ length scratch
-        → ((v : Made) → made (font_of font s) ids ≡ ok v → length v.roster ≤ 4 * s.n)
-        → (from : ℕ) → from ≡ (answer_of a).kept → (z : List ℕ) → z ≡ put after from (replicate (4 * s.n - from) 0) → Promise (lent font index ids scratch out) (answer_of a) e z
-    cut-cleared after e a v h few from f z q =
-        let m = made (font_of font s) ids in
-        from_made (lent font index ids scratch out) (font_of font s) m (answer_of a) e z
-        (is-ready (lent font index ids scratch out) (font_of font s) r (subst (λ (n : ℕ). 4 * n ≤ length scratch) o.number h)) refl v.answers v.writes
-        (q
-        ∙ cleared out scratch after s.n m from (f ∙ ap (λ (x : Answers). x.kept) v.answers) v.past (λ w e. (v.roster w e, few w e))
-        ∙ ap (λ (n : ℕ). places_from (4 * n) (length out) m ++ drop (4 * n) scratch) o.number)
+  module _ (t : Places) (f : Opened font index (Ok t)) where
+    pub may_open : Within font t × Long (contents font t)
+    may_open = (f.within, read-long font index (contents font t) (sym f.reads))
+
+    module _ (s : Source) (opened : (s.tables ≡ t) × Opens font s) where
+      o : Opens font s
+      o = opened.1
+
+      is_read : read font index ≡ ok (font_of font s)
+      is_read = sym f.reads ∙ ap (λ (t : Places). ok (contents font t)) (sym opened.0)
+
+      pub refused-short : length scratch < 4 * s.n → Promise x (answer_of (Err (Refused ScratchTooShort))) out scratch
+      refused-short h = not-ready x 8 (scratch-short x (font_of font s) is_read (subst (λ (n : ℕ). length scratch < 4 * n) o.number h))
+
+      module _ (h : 4 * s.n ≤ length scratch) (after : List ℕ) (e : Bytes) (a : Result Font CutError) (v : Cuts (font_of font s) ids s.n scratch after out e a) where
+        cut-cleared : (from : ℕ) → from ≡ (answer_of a).kept → (z : List ℕ) → z ≡ put after from (replicate (4 * s.n - from) 0) → Promise x (answer_of a) e z
+        cut-cleared from k z q =
+            let m = made (font_of font s) ids in
+            from_made x (font_of font s) m (answer_of a) e z (is-ready x (font_of font s) is_read (subst (λ (n : ℕ). 4 * n ≤ length scratch) o.number h)) refl v.answers v.writes
+            (q
+            ∙ cleared out scratch after s.n m from (k ∙ ap (λ (r : Answers). r.kept) v.answers) v.past
+            (λ w e. (v.roster w e, roster-room font s o ids scratch after out _ a v w e))
+            ∙ ap (λ (n : ℕ). places_from (4 * n) (length out) m ++ drop (4 * n) scratch) o.number)
+
+        pub may_sweep : (g : Font) → a ≡ Ok g → (written : Bool) → (written ≡ false → Unnamed (font_of font s).post)
+            → (s.n ≤ 65536) × (4 * s.n ≤ length after) × Sweepable s.n after g.kept written
+        may_sweep g is written u = (
+          omega (arith, o.number, glyphs-small (width_of (font_of font s).head) (font_of font s).loca),
+          omega (arith, v.same_length, h),
+          kept-sweepable font s o ids scratch after out e a v g is written u,
+        )
+
+        pub swept : (g : Font) → a ≡ Ok g → (z : List ℕ) → z ≡ put after g.kept (replicate (4 * s.n - g.kept) 0) → Promise x (answer_of a) e z
+        swept g is = cut-cleared g.kept (sym (ap (λ (a : Result Font CutError). (answer_of a).kept) is))
+
+        pub zeroed : (y : CutError) → a ≡ Err y → (z : List ℕ) → z ≡ put after 0 (replicate (4 * s.n) 0) → Promise x (answer_of a) e z
+        zeroed y is z q =
+            cut-cleared 0 (none_kept y ∙ sym (ap (λ (a : Result Font CutError). (answer_of a).kept) is)) z
+            (q ∙ ap (λ (k : ℕ). put after 0 (replicate k 0)) (sym (sub-zero (4 * s.n))))
 
 -- N is at most 65,536, whatever the call
 pub answer-few : (x : Input) → (answer x).kept ≤ 65536
@@ -151,5 +178,5 @@ answer-few x = go (ready x)
     go (refuse k) = omega arith
     go (ok t) = cut t (made t x.ids) refl
 
-pub font-few : (x : Input) (a : Answer) (o : Bytes) (s : List ℕ) → Promise x (answer_of a) o s → (k l : ℕ) → a ≡ case.Font k l → k ≤ 65536
-font-few x a o s p k l e = omega (arith, answer-few x, ap (λ (r : Answers). r.kept) (ap answer_of (sym e) ∙ p.answers))
+pub font-few : (x : Input) (a : Result Font CutError) (o : Bytes) (s : List ℕ) → Promise x (answer_of a) o s → (f : Font) → a ≡ Ok f → f.kept ≤ 65536
+font-few x a o s p f e = omega (arith, answer-few x, ap (λ (r : Answers). r.kept) (ap answer_of (sym e) ∙ p.answers))

@@ -9,22 +9,22 @@ ghost use Rattle.places.specs.Places.{contents, Within};
 ghost use Rattle.plan.specs.Sources.{font_of, Opens, Walked, OutlinesAdded, Unnamed};
 ghost use Rattle.subset.specs.Calls.{lent, Narrow, Rewrites, Cuts};
 
-use answer::Answer;
-use closure::Closed;
+use answer::{CutError, Font, Refusal};
 use places::Tables;
 use plan::{Source, Sums};
+use tables::Cut;
+
+// "File longer than 4,294,967,295 bytes: 5"
+const LONGEST: usize = 4_294_967_295;
 
 // Whether every length fits 32 bits. If one doesn't, the file is too long; if all do, the layout's sums stay small.
 fn narrow(sized: Tables) -> bool
     ensures { Narrow sized result }
 {
-    let mut k = 0;
-    while k < 11 {
-        let p = sized.places[k];
-        if 4294967295 < p.length {
+    for p in sized.places {
+        if p.is_some_and(|p| LONGEST < p.length) {
             return false;
         }
-        k += 1;
     }
     true
 }
@@ -37,68 +37,58 @@ fn rewrite(
     sums: Sums,
     scratch: &mut [u16],
     out: &mut [u8],
-) -> Answer
+) -> Result<Font, CutError>
     requires { Opens font.now s × Walked font.now s scratch.old kept × OutlinesAdded (font_of font.now s) (take kept scratch.old) sums }
     ensures { Rewrites (font_of font.now s) (take kept scratch.old) s.n scratch.old scratch.new out.old out.new result }
 {
-    let p = plan::measure(font, s, kept, sums, scratch);
-    if !p.fits {
-        return Answer::No(p.refusal);
-    }
+    let p = plan::measure(font, s, kept, sums, scratch)?;
     if !narrow(p.sized) {
-        return Answer::No(5);
+        return Err(CutError::Refused(Refusal::Overflow));
     }
     let new = construct::lay_out(p.sized);
     let end = new.end;
     let long = 4294967295 < end;
     if long {
-        return Answer::No(5);
+        return Err(CutError::Refused(Refusal::Overflow));
     }
     if out.len() < end {
-        return Answer::Short(end);
+        return Err(CutError::OutputTooShort { needed: end });
     }
-    tables::write_file(font, s, kept, scratch, p, new, out);
-    Answer::Font { kept, length: end }
+    let cut = Cut {
+        font,
+        source: s,
+        scratch: &scratch[..],
+        kept,
+        plan: p,
+    };
+    cut.write_file(new, out);
+    Ok(Font { kept, length: end })
 }
 
 // Steps 5 to 10.
-fn cut(font: &[u8], s: Source, ids: &[u16], scratch: &mut [u16], out: &mut [u8]) -> Answer
+fn cut(
+    font: &[u8],
+    s: Source,
+    ids: &[u16],
+    scratch: &mut [u16],
+    out: &mut [u8],
+) -> Result<Font, CutError>
     requires { Opens font.now s × (4 * s.n ≤ length scratch.old) }
     ensures { Cuts (font_of font.now s) ids.now s.n scratch.old scratch.new out.old out.new result }
 {
-    let t = s.tables;
-    let long = s.long;
-    let n = s.n;
-    let c = closure::close_over(
-        face::table(font, t, 6),
-        face::table(font, t, 2),
-        long,
-        n,
+    let walk = closure::close_over(
+        face::table(font, s.tables, places::LOCA),
+        face::table(font, s.tables, places::GLYF),
+        s.long,
+        s.n,
         ids,
         scratch,
-    );
-    match c {
-        Closed::No(k) => Answer::No(k),
-        Closed::Kept { kept, even, raw } => rewrite(
-            font,
-            s,
-            kept,
-            Sums { even, raw },
-            scratch,
-            out,
-        ),
-    }
-}
-
-// How many places of the scratch the answer's roster takes.
-fn roster_length(a: Answer) -> usize
-    ensures { result ≡ (answer_of a).kept }
-{
-    match a {
-        Answer::Font { kept, length: _ } => kept,
-        Answer::No(_) => 0,
-        Answer::Short(_) => 0,
-    }
+    )?;
+    let sums = Sums {
+        even: walk.even,
+        raw: walk.raw,
+    };
+    rewrite(font, s, walk.kept, sums, scratch, out)
 }
 
 // Whether post may have names of its own: their places were in the scratch.
@@ -106,8 +96,8 @@ fn named(font: &[u8], t: Tables) -> bool
     requires { Within font.now t }
     ensures { result ≡ false → Unnamed (contents font.now t).post }
 {
-    let post = face::table(font, t, 9);
-    if post.len() == 0 {
+    let post = face::table(font, t, places::POST);
+    if post.is_empty() {
         return false;
     }
     if post.len() < 4 {
@@ -118,25 +108,29 @@ fn named(font: &[u8], t: Tables) -> bool
 
 // Cuts a font down to glyph 0, the ids asked for and what their components need. `scratch` must hold 4n numbers and `out` the file;
 // afterwards the first N places of the scratch are the roster.
-pub fn subset(font: &[u8], index: u32, ids: &[u16], scratch: &mut [u16], out: &mut [u8]) -> Answer
+pub fn subset(
+    font: &[u8],
+    index: u32,
+    ids: &[u16],
+    scratch: &mut [u16],
+    out: &mut [u8],
+) -> Result<Font, CutError>
     ensures { Promise (lent font.now index ids.now scratch.old out.old) (answer_of result) out.new scratch.new }
 {
-    let f = face::open(font, index);
-    let refusal = f.refusal;
-    if refusal != 0 {
-        return Answer::No(refusal);
-    }
-    let s = plan::open_source(font, f.tables);
+    let t = face::open(font, index)?;
+    let s = plan::open_source(font, t);
     let n = s.n;
     if scratch.len() < 4 * n {
-        return Answer::No(8);
+        return Err(CutError::Refused(Refusal::ScratchTooShort));
     }
-    let a = cut(font, s, ids, scratch, out);
-    let kept = roster_length(a);
-    if kept == 0 {
-        remapper::zeros(scratch, kept, 4 * n - kept);
-        return a;
+    match cut(font, s, ids, scratch, out) {
+        Ok(cut) => {
+            remapper::sweep(scratch, n, cut.kept, named(font, s.tables));
+            Ok(cut)
+        }
+        Err(error) => {
+            remapper::zeros(scratch, 0, 4 * n);
+            Err(error)
+        }
     }
-    remapper::sweep(scratch, n, kept, named(font, s.tables));
-    a
 }

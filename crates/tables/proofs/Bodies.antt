@@ -18,7 +18,7 @@ use Rattle.model.specs.Name.{cut_name}
 use Rattle.model.specs.Post.{cut_post}
 use Rattle.model.specs.Cut.{CutFont, count, piece_of, new_maxp, optional, rewrite}
 use Rattle.model.proofs.Res.{true_false}
-use Rattle.places.specs.Places.{place_at, content_at, option_at, contents}
+use Rattle.places.specs.Places.{present_at, content_at, option_at, contents}
 use Rattle.hmtx.specs.Measures.{sizes, metrics_of}
 use Rattle.hmtx.proofs.Step.{Fits as MetricsFit, measured-fits}
 use Rattle.glyf.specs.Pieces.{pieces, Readable, Numbered, both_tables, TablesRoom}
@@ -32,7 +32,7 @@ use Rattle.plan.specs.declared.Plan.{Plan}
 use Rattle.plan.specs.Steps.{renewed, tables_of, there?, bytes_in}
 use Rattle.plan.specs.Sources.{font_of}
 use Rattle.plan.proofs.Rostered as rostered
-use Rattle.tables.specs.Writing.{new_body, Ran, Fits, OutlinesFit}
+use Rattle.tables.specs.Writing.{body_from, Ran, FitsFrom, OutlinesFitFrom}
 use Rattle.tables.proofs.Standing.{body_is}
 use Rattle.tables.proofs.Lengths.{offsets_fit, length-new_head, length-new_hhea, length-new_maxp}
 
@@ -86,8 +86,8 @@ copied-there false x e = true_false (sym e)
 
 -- by its number
 pub at-number : {font : Bytes} {s : Source} {scratch : List ℕ} {kept : ℕ} {p : Plan} {out : Bytes} {k j : ℕ} → k ≡ j
-    → Fits font s scratch kept p k out → Fits font s scratch kept p j out
-at-number {font = font} {s = s} {scratch = scratch} {kept = kept} {p = p} {out = out} e f = subst (λ (n : ℕ). Fits font s scratch kept p n out) e f
+    → FitsFrom font s scratch kept p k out → FitsFrom font s scratch kept p j out
+at-number {font = font} {s = s} {scratch = scratch} {kept = kept} {p = p} {out = out} e f = subst (λ (n : ℕ). FitsFrom font s scratch kept p n out) e f
 
 -- which tables are copied
 abbrev pub Copied : ℕ → Type 0
@@ -131,11 +131,11 @@ module _ {font : Bytes} {s : Source} {scratch : List ℕ} {kept : ℕ} {p : Plan
   roster-some = rostered.some font s scratch kept w.opens w.walked
 
   -- head
-  pub head_body : new_head (width p.wide) (content_at font s.tables 3) ≡ new_body font s scratch kept 3
-  unfolding new_body body_of renewed contents
+  pub head_body : new_head (width p.wide) (content_at font s.tables 3) ≡ body_from font s scratch kept 3
+  unfolding body_from body_of renewed contents
   head_body = ap (λ (v : Width). new_head v (content_at font s.tables 3)) w.found.width
 
-  pub head-room : (out : Bytes) → length (new_body font s scratch kept 3) ≤ length out → (52 ≤ length (content_at font s.tables 3)) × (length (content_at font s.tables 3) ≤ length out)
+  pub head-room : (out : Bytes) → length (body_from font s scratch kept 3) ≤ length out → (52 ≤ length (content_at font s.tables 3)) × (length (content_at font s.tables 3) ≤ length out)
   unfolding contents
   head-room out h =
       let l = w.opens.long.head in
@@ -155,11 +155,11 @@ module _ {font : Bytes} {s : Source} {scratch : List ℕ} {kept : ℕ} {p : Plan
       (ap (λ (c : ℕ). ok (c, l)) w.found.counted ∙ sym (ap (map_res sizes) (value_of_lem [] m passed.metrics)))
       (omega (arith, roster-size, roster-some))
 
-  pub hhea_body : new_hhea (content_at font s.tables 4) p.count ≡ new_body font s scratch kept 4
-  unfolding new_body body_of renewed contents
+  pub hhea_body : new_hhea (content_at font s.tables 4) p.count ≡ body_from font s scratch kept 4
+  unfolding body_from body_of renewed contents
   hhea_body = ap (new_hhea (content_at font s.tables 4)) w.found.counted
 
-  pub hhea-room : (out : Bytes) → length (new_body font s scratch kept 4) ≤ length out
+  pub hhea-room : (out : Bytes) → length (body_from font s scratch kept 4) ≤ length out
       → (2 ≤ length (content_at font s.tables 4)) × (length (content_at font s.tables 4) ≤ length out) × (p.count ≤ 65535)
   unfolding contents
   hhea-room out h =
@@ -171,12 +171,12 @@ module _ {font : Bytes} {s : Source} {scratch : List ℕ} {kept : ℕ} {p : Plan
       let f = roster-few in
       (omega arith, omega arith, omega arith)
 
-  pub hmtx_body : new_hmtx p.count (metrics_of (content_at font s.tables 4) (content_at font s.tables 5) (take kept scratch)) ≡ new_body font s scratch kept 5
-  unfolding new_body body_of renewed contents
+  pub hmtx_body : new_hmtx p.count (metrics_of (content_at font s.tables 4) (content_at font s.tables 5) (take kept scratch)) ≡ body_from font s scratch kept 5
+  unfolding body_from body_of renewed contents
   hmtx_body =
       ap (λ (c : ℕ). new_hmtx c (metrics_of (content_at font s.tables 4) (content_at font s.tables 5) (take kept scratch))) w.found.counted
 
-  pub hmtx-room : (out : Bytes) → length (new_body font s scratch kept 5) ≤ length out → HmtxRoom (content_at font s.tables 4) (content_at font s.tables 5) (take kept scratch) p.count out
+  pub hmtx-room : (out : Bytes) → length (body_from font s scratch kept 5) ≤ length out → HmtxRoom (content_at font s.tables 4) (content_at font s.tables 5) (take kept scratch) p.count out
   unfolding contents
   hmtx-room out h =
       let l = w.opens.long.hhea in
@@ -217,21 +217,21 @@ module _ {font : Bytes} {s : Source} {scratch : List ℕ} {kept : ℕ} {p : Plan
       (numbered_from (font_of font s) w.walked.ids (take kept scratch) w.walked.closes scratch (ap (λ (k : ℕ). take k scratch) roster-size)
       (omega (arith, w.opens.number, w.walked.space)) number))
 
-  glyf_body : new_glyf (width p.wide) (pieces (width s.long) s.n (content_at font s.tables 6) (content_at font s.tables 2) (take kept scratch)) ≡ new_body font s scratch kept 2
-  unfolding new_body body_of renewed
+  glyf_body : new_glyf (width p.wide) (pieces (width s.long) s.n (content_at font s.tables 6) (content_at font s.tables 2) (take kept scratch)) ≡ body_from font s scratch kept 2
+  unfolding body_from body_of renewed
   glyf_body = ap₂ (λ (v : Width) (bs : List Bytes). new_glyf v bs) w.found.width pieces-same
 
-  loca_body : new_loca (width p.wide) 0 (pieces (width s.long) s.n (content_at font s.tables 6) (content_at font s.tables 2) (take kept scratch)) ≡ new_body font s scratch kept 6
-  unfolding new_body body_of renewed
+  loca_body : new_loca (width p.wide) 0 (pieces (width s.long) s.n (content_at font s.tables 6) (content_at font s.tables 2) (take kept scratch)) ≡ body_from font s scratch kept 6
+  unfolding body_from body_of renewed
   loca_body = ap₂ (λ (v : Width) (bs : List Bytes). new_loca v 0 bs) w.found.width pieces-same
 
   pub both-bodies : (distance : ℕ) (out : Bytes)
       → both_tables (width p.wide) (pieces (width s.long) s.n (content_at font s.tables 6) (content_at font s.tables 2) (take kept scratch)) distance out
-      ≡ put (over (new_body font s scratch kept 2) out) distance (new_body font s scratch kept 6)
+      ≡ put (over (body_from font s scratch kept 2) out) distance (body_from font s scratch kept 6)
   unfolding both_tables
   both-bodies distance out = ap₂ (λ (g l : Bytes). put (over g out) distance l) glyf_body loca_body
 
-  pub tables-room : (distance : ℕ) (out : Bytes) → OutlinesFit font s scratch kept p out distance
+  pub tables-room : (distance : ℕ) (out : Bytes) → OutlinesFitFrom font s scratch kept p out distance
       → TablesRoom (width s.long) (width p.wide) s.n (content_at font s.tables 6) (content_at font s.tables 2) scratch kept out distance
   tables-room distance out f =
       let bs = pieces (width s.long) s.n (content_at font s.tables 6) (content_at font s.tables 2) (take kept scratch) in
@@ -246,11 +246,11 @@ module _ {font : Bytes} {s : Source} {scratch : List ℕ} {kept : ℕ} {p : Plan
       }
 
   -- maxp
-  pub maxp_body : new_maxp (content_at font s.tables 7) kept ≡ new_body font s scratch kept 7
-  unfolding new_body body_of renewed contents
+  pub maxp_body : new_maxp (content_at font s.tables 7) kept ≡ body_from font s scratch kept 7
+  unfolding body_from body_of renewed contents
   maxp_body = ap (new_maxp (content_at font s.tables 7)) (sym roster-size)
 
-  pub maxp-room : (out : Bytes) → length (new_body font s scratch kept 7) ≤ length out → (6 ≤ length (content_at font s.tables 7)) × (length (content_at font s.tables 7) ≤ length out)
+  pub maxp-room : (out : Bytes) → length (body_from font s scratch kept 7) ≤ length out → (6 ≤ length (content_at font s.tables 7)) × (length (content_at font s.tables 7) ≤ length out)
   unfolding contents
   maxp-room out h =
       let l = w.opens.long.maxp in
@@ -260,28 +260,28 @@ module _ {font : Bytes} {s : Source} {scratch : List ℕ} {kept : ℕ} {p : Plan
 
   -- name and post, where they are there
   module _ (there : there? (get_or (tables_of (renewed (font_of font s) (take kept scratch))) 8 none) ≡ true) where
-    name-cut : Cut cut_name (content_at font s.tables 8) (value_of none (optional cut_name (option_at font s.tables 8))) (place_at s.tables 8).present
+    name-cut : Cut cut_name (content_at font s.tables 8) (value_of none (optional cut_name (option_at font s.tables 8))) (present_at s.tables 8)
     unfolding option_at contents renewed
-    name-cut = cut-there cut_name (place_at s.tables 8).present (content_at font s.tables 8) passed.name there
+    name-cut = cut-there cut_name (present_at s.tables 8) (content_at font s.tables 8) passed.name there
 
-    pub name_body : value_of [] (cut_name (content_at font s.tables 8)) ≡ new_body font s scratch kept 8
-    unfolding new_body renewed contents
+    pub name_body : value_of [] (cut_name (content_at font s.tables 8)) ≡ body_from font s scratch kept 8
+    unfolding body_from renewed contents
     name_body = name-cut.same ∙ sym (body_is (renewed (font_of font s) (take kept scratch)) 8)
 
-    pub name-room : (out : Bytes) → length (new_body font s scratch kept 8) ≤ length out
+    pub name-room : (out : Bytes) → length (body_from font s scratch kept 8) ≤ length out
         → (is_ok (cut_name (content_at font s.tables 8)) ≡ true) × (length (value_of [] (cut_name (content_at font s.tables 8))) ≤ length out)
     name-room out h = let e = ap length name_body in (name-cut.good, omega arith)
 
   module _ (there : there? (get_or (tables_of (renewed (font_of font s) (take kept scratch))) 9 none) ≡ true) where
-    post-cut : Cut (λ b. cut_post b (take kept scratch)) (content_at font s.tables 9) (value_of none (optional (λ b. cut_post b (take kept scratch)) (option_at font s.tables 9))) (place_at s.tables 9).present
+    post-cut : Cut (λ b. cut_post b (take kept scratch)) (content_at font s.tables 9) (value_of none (optional (λ b. cut_post b (take kept scratch)) (option_at font s.tables 9))) (present_at s.tables 9)
     unfolding option_at contents renewed
-    post-cut = cut-there (λ b. cut_post b (take kept scratch)) (place_at s.tables 9).present (content_at font s.tables 9) passed.post there
+    post-cut = cut-there (λ b. cut_post b (take kept scratch)) (present_at s.tables 9) (content_at font s.tables 9) passed.post there
 
-    pub post-body : value_of [] (cut_post (content_at font s.tables 9) (take kept scratch)) ≡ new_body font s scratch kept 9
-    unfolding new_body renewed contents
+    pub post-body : value_of [] (cut_post (content_at font s.tables 9) (take kept scratch)) ≡ body_from font s scratch kept 9
+    unfolding body_from renewed contents
     post-body = post-cut.same ∙ sym (body_is (renewed (font_of font s) (take kept scratch)) 9)
 
-    pub post-room : (out : Bytes) → length (new_body font s scratch kept 9) ≤ length out → PostRoom (content_at font s.tables 9) scratch s.n kept out
+    pub post-room : (out : Bytes) → length (body_from font s scratch kept 9) ≤ length out → PostRoom (content_at font s.tables 9) scratch s.n kept out
     unfolding option_at contents
     post-room out h =
         let e = ap length post-body in
@@ -290,14 +290,14 @@ module _ {font : Bytes} {s : Source} {scratch : List ℕ} {kept : ℕ} {p : Plan
 
   -- cvt, fpgm, prep
   copied-same : (k : ℕ) → get_or (tables_of (renewed (font_of font s) (take kept scratch))) k none ≡ option_at font s.tables k
-      → there? (get_or (tables_of (renewed (font_of font s) (take kept scratch))) k none) ≡ true → content_at font s.tables k ≡ new_body font s scratch kept k
-  unfolding option_at new_body
+      → there? (get_or (tables_of (renewed (font_of font s) (take kept scratch))) k none) ≡ true → content_at font s.tables k ≡ body_from font s scratch kept k
+  unfolding option_at body_from
   copied-same k e there =
-      copied-there (place_at s.tables k).present (content_at font s.tables k) (ap there? (sym e) ∙ there)
+      copied-there (present_at s.tables k) (content_at font s.tables k) (ap there? (sym e) ∙ there)
       ∙ ap bytes_in (sym e) ∙ sym (body_is (renewed (font_of font s) (take kept scratch)) k)
 
   pub copied_body : (k : ℕ) → Copied k → there? (get_or (tables_of (renewed (font_of font s) (take kept scratch))) k none) ≡ true
-      → content_at font s.tables k ≡ new_body font s scratch kept k
+      → content_at font s.tables k ≡ body_from font s scratch kept k
   unfolding renewed contents
   copied_body k (inl e) there = copied-same k (rw e refl) there
   copied_body k (inr (inl e)) there = copied-same k (rw e refl) there

@@ -2,3 +2,4 @@ pub mod Lengths
 pub mod Order
 pub mod Standing
 pub mod Bodies
+pub mod Presence

@@ -11,7 +11,7 @@ use Rattle.model.specs.Res.{pick}
 use Rattle.model.specs.Bytes.{Bytes, put, pad4}
 use Rattle.model.proofs.Bytes.{length-put}
 use Rattle.model.proofs.Puts.{put-swap}
-use Rattle.places.specs.Places.{place_at}
+use Rattle.places.specs.Places.{place_at, present_at}
 use Rattle.construct.specs.declared.Layout.{Layout}
 use Rattle.construct.specs.Construct.{raised, directory_length, Sized, Placed, write_at, write_to}
 use Rattle.construct.proofs.Files.{length-pad4}
@@ -40,37 +40,37 @@ module _ (new : Layout) (placed : Placed new) (body : ℕ → Bytes) (sized : Si
   abbrev w : ℕ → Bytes → Bytes
   w k o = write_at new k (body k) o
 
-  size : (k : ℕ) → k < 11 → (place_at new.tables k).present ≡ true → length (pad4 (body k)) ≡ raised (place_at new.tables k).length
+  size : (k : ℕ) → k < 11 → present_at new.tables k ≡ true → length (pad4 (body k)) ≡ raised (place_at new.tables k).length
   size k h t = length-pad4 (body k) ∙ ap raised (sized k h t)
 
   room : (k : ℕ) → k < 11 → (o : Bytes) → new.end ≤ length o → new.end ≤ length (w k o)
   unfolding write_at
-  room k h o r = go (place_at new.tables k).present refl
+  room k h o r = go (present_at new.tables k) refl
     where
-      go : (b : Bool) → (place_at new.tables k).present ≡ b → new.end ≤ length (pick b (put o (at k) (pad4 (body k))) o)
+      go : (b : Bool) → present_at new.tables k ≡ b → new.end ≤ length (pick b (put o (at k) (pad4 (body k))) o)
       go false n = r
       go true t = let m = pad_room new placed k h t in let z = size k h t in rw (length-put o (at k) (pad4 (body k)) (omega arith)) r
 
   -- table j ends before table k starts
-  pub ends-before : (j k : ℕ) → j < k → k < 11 → (place_at new.tables j).present ≡ true → at j + raised (place_at new.tables j).length ≤ at k
-  ends-before j k l h t =
+  pub ends-before : (j k : ℕ) → j < k → k < 11 → present_at new.tables j ≡ true → present_at new.tables k ≡ true → at j + raised (place_at new.tables j).length ≤ at k
+  ends-before j k l h t u =
       let d = directory_length new.count in
       let s = start-there new.tables d j t in
       let g = start-grows new.tables d (j + 1) k (omega arith) in
-      omega (arith, placed.offsets j (omega arith), placed.offsets k h)
+      omega (arith, placed.offsets j (omega arith) t, placed.offsets k h u)
 
   swap : (j k : ℕ) → j < k → k < 11 → (o : Bytes) → new.end ≤ length o → w j (w k o) ≡ w k (w j o)
   unfolding write_at
-  swap j k l h o r = go (place_at new.tables j).present refl (place_at new.tables k).present refl
+  swap j k l h o r = go (present_at new.tables j) refl (present_at new.tables k) refl
     where
-      go : (b : Bool) → (place_at new.tables j).present ≡ b → (c : Bool) → (place_at new.tables k).present ≡ c
+      go : (b : Bool) → present_at new.tables j ≡ b → (c : Bool) → present_at new.tables k ≡ c
           → pick b (put (pick c (put o (at k) (pad4 (body k))) o) (at j) (pad4 (body j))) (pick c (put o (at k) (pad4 (body k))) o)
           ≡ pick c (put (pick b (put o (at j) (pad4 (body j))) o) (at k) (pad4 (body k))) (pick b (put o (at j) (pad4 (body j))) o)
       go false e c f = refl
       go true e false f = refl
       go true e true f =
           sym
-          (put-swap o (at j) (pad4 (body j)) (at k) (pad4 (body k)) (omega (arith, ends-before j k l h e, size j (omega arith) e))
+          (put-swap o (at j) (pad4 (body j)) (at k) (pad4 (body k)) (omega (arith, ends-before j k l h e f, size j (omega arith) e))
           (omega (arith, pad_room new placed k h f, size k h f)))
 
   pub in_tag_order : (o : Bytes) → new.end ≤ length o → others_to new body (w 6 (w 2 o)) 11 ≡ write_to new body o 11

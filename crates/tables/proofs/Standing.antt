@@ -17,7 +17,7 @@ use Rattle.model.specs.File.{entries, file}
 use Rattle.model.proofs.Bytes.{length-put, length_over}
 use Rattle.model.proofs.Puts.{put-swap}
 use Rattle.model.proofs.Parts.{put_back}
-use Rattle.places.specs.Places.{place_at}
+use Rattle.places.specs.Places.{place_at, present_at}
 use Rattle.construct.specs.declared.Layout.{Layout}
 use Rattle.construct.specs.Construct.{raised, laid_out, laid, content_of, body_of, marks, Marked, Sized, Placed, Ready, Written, write_at, write_to}
 use Rattle.construct.proofs.Files.{length-pad4, raised-room}
@@ -29,7 +29,7 @@ use Rattle.plan.specs.declared.Plan.{Plan}
 use Rattle.plan.specs.Steps.{renewed, tables_of, there?, bytes_in}
 use Rattle.plan.specs.Sources.{font_of, Found}
 use Rattle.glyf.proofs.Puts.{put-lent}
-use Rattle.tables.specs.Writing.{new_body, others_to, Writes, Fits, OutlinesFit}
+use Rattle.tables.specs.Writing.{body_from, others_to, WritesFrom, FitsFrom, OutlinesFitFrom}
 use Rattle.tables.proofs.Lengths.{length-new_head}
 use Rattle.tables.proofs.Order.{ends-before, in_tag_order}
 
@@ -52,7 +52,7 @@ module _ (t : Tables) (r : List ℕ) (p : Plan) (found : Found t r p) (new : Lay
 
   marked-at : Marked (renewed t r) new.tables
   marked-at k h =
-      subst (λ (n : Layout). (place_at n.tables k).present ≡ get_or (marks (renewed t r)) k false) (sym is)
+      subst (λ (n : Layout). present_at n.tables k ≡ get_or (marks (renewed t r)) k false) (sym is)
       (layout-present p.sized k h ∙ (found.sized k h).0 ∙ sym (mark-is (renewed t r) k))
 
   sized-at : Sized new.tables (body_of (renewed t r))
@@ -77,7 +77,7 @@ file-length t r p found long =
 
 -- table number k has its place in the output
 pub record Spot (new : Layout) (k : ℕ) (body out : Bytes) : Type 0 where
-  pub there : (place_at new.tables k).present ≡ true
+  pub there : present_at new.tables k ≡ true
   pub size : length body ≡ (place_at new.tables k).length
   pub padded : (place_at new.tables k).offset + raised (place_at new.tables k).length ≤ length out
   pub inside : (place_at new.tables k).offset + length body ≤ length out
@@ -170,7 +170,7 @@ module _ {new : Layout} {g l out : Bytes} (sg : Spot new 2 g out) (sl : Spot new
           write_there new 6 l (write_at new 2 g out) o x sl.there (omega (arith, length-glyf, sl.inside)) glyf-padded
           (q ∙ ap (λ (n : ℕ). put o (to + n) (replicate ((4 - n % 4) % 4) 0)) (sym sl.size))
 
-module _ {font : Bytes} {s : Source} {scratch : List ℕ} {kept : ℕ} {p : Plan} {new : Layout} (w : Writes font s scratch kept p new) where
+module _ {font : Bytes} {s : Source} {scratch : List ℕ} {kept : ℕ} {p : Plan} {new : Layout} (w : WritesFrom font s scratch kept p new) where
   placed : Placed new
   placed = placed_at (font_of font s) (take kept scratch) p w.ran.found new w.layout
 
@@ -184,8 +184,8 @@ module _ {font : Bytes} {s : Source} {scratch : List ℕ} {kept : ℕ} {p : Plan
   long = head-long (font_of font s) (take kept scratch) p w.ran.found new w.layout w.ran.opens.long.head
 
   -- glyf is no longer than the file
-  offsets : length (new_body font s scratch kept 2) ≤ 4294967295
-  unfolding new_body marks
+  offsets : length (body_from font s scratch kept 2) ≤ 4294967295
+  unfolding body_from marks
   offsets =
       let m = place-room new placed 2 (lit< tt) (marked 2 (lit< tt)) in
       let e = sized 2 (lit< tt) (marked 2 (lit< tt)) in
@@ -193,15 +193,15 @@ module _ {font : Bytes} {s : Source} {scratch : List ℕ} {kept : ℕ} {p : Plan
       omega arith
 
   module _ (out : Bytes) (room : new.end ≤ length out) where
-    pub spot : (k : ℕ) → k < 11 → (place_at new.tables k).present ≡ true → Spot new k (new_body font s scratch kept k) out
-    unfolding new_body
+    pub spot : (k : ℕ) → k < 11 → present_at new.tables k ≡ true → Spot new k (body_from font s scratch kept k) out
+    unfolding body_from
     spot k h there =
         let e = sized k h there in
         let m = pad_room new placed k h there in
         let r = raised-room (place_at new.tables k).length in
         record { there = there; size = e; padded = omega arith; inside = omega arith }
 
-    pub fits : (k : ℕ) → k < 11 → (place_at new.tables k).present ≡ true → Fits font s scratch kept p k (lent_part new k out)
+    pub fits : (k : ℕ) → k < 11 → present_at new.tables k ≡ true → FitsFrom font s scratch kept p k (lent_part new k out)
     fits k h there =
         record {
           ran = w.ran;
@@ -210,18 +210,18 @@ module _ {font : Bytes} {s : Source} {scratch : List ℕ} {kept : ℕ} {p : Plan
         }
 
     -- glyf and loca are always there
-    pub glyf-spot : Spot new 2 (new_body font s scratch kept 2) out
+    pub glyf-spot : Spot new 2 (body_from font s scratch kept 2) out
     unfolding marks
     glyf-spot = spot 2 (lit< tt) (marked 2 (lit< tt))
 
-    pub loca-spot : Spot new 6 (new_body font s scratch kept 6) out
+    pub loca-spot : Spot new 6 (body_from font s scratch kept 6) out
     unfolding marks
     loca-spot = spot 6 (lit< tt) (marked 6 (lit< tt))
 
     pub glyf-loca : (place_at new.tables 2).offset + raised (place_at new.tables 2).length ≤ (place_at new.tables 6).offset
-    glyf-loca = ends-before new placed (body_of (renewed (font_of font s) (take kept scratch))) sized 2 6 (lit< tt) (lit< tt) glyf-spot.there
+    glyf-loca = ends-before new placed (body_of (renewed (font_of font s) (take kept scratch))) sized 2 6 (lit< tt) (lit< tt) glyf-spot.there loca-spot.there
 
-    pub outlines-fit : OutlinesFit font s scratch kept p (lent_part new 2 out) ((place_at new.tables 6).offset - (place_at new.tables 2).offset)
+    pub outlines-fit : OutlinesFitFrom font s scratch kept p (lent_part new 2 out) ((place_at new.tables 6).offset - (place_at new.tables 2).offset)
     outlines-fit =
         let lent : length (lent_part new 2 out) ≡ length out - (place_at new.tables 2).offset = simp (length-take, length-drop) (omega arith) in
         let r = raised-room (place_at new.tables 2).length in
@@ -233,15 +233,15 @@ module _ {font : Bytes} {s : Source} {scratch : List ℕ} {kept : ℕ} {p : Plan
         }
 
     -- then the others
-    pub others-written : (o₁ o₂ : Bytes) → o₁ ≡ write_at new 6 (new_body font s scratch kept 6) (write_at new 2 (new_body font s scratch kept 2) out)
-        → o₂ ≡ others_to new (new_body font s scratch kept) o₁ 11 → o₂ ≡ write_to new (new_body font s scratch kept) out 11
+    pub others-written : (o₁ o₂ : Bytes) → o₁ ≡ write_at new 6 (body_from font s scratch kept 6) (write_at new 2 (body_from font s scratch kept 2) out)
+        → o₂ ≡ others_to new (body_from font s scratch kept) o₁ 11 → o₂ ≡ write_to new (body_from font s scratch kept) out 11
     others-written o₁ o₂ e f =
-        f ∙ ap (λ (z : Bytes). others_to new (new_body font s scratch kept) z 11) e
-        ∙ in_tag_order new placed (new_body font s scratch kept) (unfold new_body in sized) out room
+        f ∙ ap (λ (z : Bytes). others_to new (body_from font s scratch kept) z 11) e
+        ∙ in_tag_order new placed (body_from font s scratch kept) (unfold body_from in sized) out room
 
-    module _ (o : Bytes) (e : o ≡ write_to new (new_body font s scratch kept) out 11) where
+    module _ (o : Bytes) (e : o ≡ write_to new (body_from font s scratch kept) out 11) where
       all-written : Written new (body_of (renewed (font_of font s) (take kept scratch))) out o 11
-      unfolding new_body
+      unfolding body_from
       all-written = e ∙ written_to new placed (body_of (renewed (font_of font s) (take kept scratch))) sized out room 11 (omega arith)
 
       pub all-ready : Ready o new

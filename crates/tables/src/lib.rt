@@ -3,7 +3,8 @@
 // directory and head's adjustment are written last.
 #![tactic(auto)]
 
-ghost use Rattle.std.specs.Prelude.{◌≡◌, ◌≤◌, length, take};
+ghost use Rattle.std.specs.Prelude.{◌≡◌, true, ◌≤◌, ◌<◌, length, take};
+ghost use Rattle.places.specs.Places.{place_at, present_at, content_at, Within};
 ghost use Rattle.model.specs.Bytes.{put, over};
 ghost use Rattle.model.specs.File.{entries, file};
 ghost use Rattle.construct.specs.Construct.{write_at};
@@ -12,167 +13,150 @@ ghost use Rattle.plan.specs.Sources.{font_of};
 ghost use Rattle.tables.specs.Writing.{new_body, others_to, Single, Writes, Fits, OutlinesFit};
 
 use construct::Layout;
+use places::Place;
 use plan::{Plan, Source};
 
-// The kept outlines with new ids, and at a distance where each starts.
-fn write_outlines(
-    font: &[u8],
-    s: Source,
-    kept: usize,
-    scratch: &[u16],
-    p: Plan,
-    out: &mut [u8],
-    distance: usize,
-)
-    requires { OutlinesFit font.now s scratch.now kept p out.old distance }
-    ensures { out.new ≡ put (over (new_body font.now s scratch.now kept 2) out.old) distance (new_body font.now s scratch.now kept 6) }
-{
-    let t = s.tables;
-    glyf::write(
-        face::table(font, t, places::LOCA),
-        face::table(font, t, places::GLYF),
-        s.long,
-        s.n,
-        scratch,
-        kept,
-        p.wide,
-        out,
-        distance,
-    );
+// What the writers are lent: the font as it was opened, the walk's scratch with the roster in its first `kept` places, and the plan.
+#[derive(Clone, Copy)]
+pub struct Cut<'a> {
+    pub font: &'a [u8],
+    pub source: Source,
+    pub scratch: &'a [u16],
+    pub kept: usize,
+    pub plan: Plan,
 }
 
-// The kept glyphs' metrics.
-fn write_hmtx(font: &[u8], s: Source, kept: usize, scratch: &[u16], p: Plan, out: &mut [u8])
-    requires { Fits font.now s scratch.now kept p 5 out.old }
-    ensures { out.new ≡ over (new_body font.now s scratch.now kept 5) out.old }
-{
-    let t = s.tables;
-    hmtx::write_hmtx(
-        face::table(font, t, places::HHEA),
-        face::table(font, t, places::HMTX),
-        &scratch[..kept],
-        p.count,
-        out,
-    );
-}
+impl<'a> Cut<'a> {
+    // Table number k of the old font.
+    fn old(&self, k: usize) -> &'a [u8]
+        requires { (k < 11) × Within self.now.font.now self.now.source.tables }
+        ensures { result.now ≡ content_at self.now.font.now self.now.source.tables k }
+    {
+        face::table(self.font, self.source.tables, k)
+    }
 
-// Table number k, at the start of out. "cvt, fpgm, prep: copied". head's adjustment stays zero until the file's sum is known.
-fn write_table(
-    font: &[u8],
-    s: Source,
-    kept: usize,
-    scratch: &[u16],
-    p: Plan,
-    k: usize,
-    out: &mut [u8],
-)
-    requires { Single k × Fits font.now s scratch.now kept p k out.old }
-    ensures { out.new ≡ over (new_body font.now s scratch.now kept k) out.old }
-{
-    if k == places::HMTX {
-        return write_hmtx(font, s, kept, scratch, p, out);
+    // The kept outlines with new ids, and at a distance where each starts.
+    fn write_outlines(&self, out: &mut [u8], distance: usize)
+        requires { OutlinesFit self.now out.old distance }
+        ensures { out.new ≡ put (over (new_body self.now 2) out.old) distance (new_body self.now 6) }
+    {
+        glyf::write(
+            self.old(places::LOCA),
+            self.old(places::GLYF),
+            self.source.long,
+            self.source.n,
+            self.scratch,
+            self.kept,
+            self.plan.wide,
+            out,
+            distance,
+        );
     }
-    let old = face::table(font, s.tables, k);
-    if k == places::HEAD {
-        return head::write(old, p.wide, out);
-    }
-    if k == places::HHEA {
-        return hmtx::write_hhea(old, p.count, out);
-    }
-    if k == places::MAXP {
-        return maxp::write(old, kept as u16, out);
-    }
-    if k == places::NAME {
-        return name::write(old, out);
-    }
-    if k == places::POST {
-        return post::write(old, scratch, s.n, kept, out);
-    }
-    write::copy(old, out, 0);
-}
 
-// Table number k, if it is there, to its own part of the output, and the zeros behind it.
-fn put_table(
-    font: &[u8],
-    s: Source,
-    kept: usize,
-    scratch: &[u16],
-    p: Plan,
-    new: Layout,
-    k: usize,
-    out: &mut [u8],
-)
-    requires { Single k × Writes font.now s scratch.now kept p new × (new.end ≤ length out.old) }
-    ensures { out.new ≡ write_at new k (new_body font.now s scratch.now kept k) out.old }
-{
-    let tables = new.tables;
-    let to = tables.places[k];
-    let at = to.offset;
-    if to.present {
-        write_table(font, s, kept, scratch, p, k, &mut out[at..]);
+    // The kept glyphs' metrics.
+    fn write_hmtx(&self, out: &mut [u8])
+        requires { Fits self.now 5 out.old }
+        ensures { out.new ≡ over (new_body self.now 5) out.old }
+    {
+        hmtx::write_hmtx(
+            self.old(places::HHEA),
+            self.old(places::HMTX),
+            &self.scratch[..self.kept],
+            self.plan.count,
+            out,
+        );
+    }
+
+    // Table number k, at the start of out. "cvt, fpgm, prep: copied". head's adjustment stays zero until the file's sum is known.
+    fn write_table(&self, k: usize, out: &mut [u8])
+        requires { Single k × Fits self.now k out.old }
+        ensures { out.new ≡ over (new_body self.now k) out.old }
+    {
+        if k == places::HMTX {
+            return self.write_hmtx(out);
+        }
+        let old = self.old(k);
+        if k == places::HEAD {
+            return head::write(old, self.plan.wide, out);
+        }
+        if k == places::HHEA {
+            return hmtx::write_hhea(old, self.plan.count, out);
+        }
+        if k == places::MAXP {
+            return maxp::write(old, self.kept as u16, out);
+        }
+        if k == places::NAME {
+            return name::write(old, out);
+        }
+        if k == places::POST {
+            return post::write(old, self.scratch, self.source.n, self.kept, out);
+        }
+        write::copy(old, out, 0);
+    }
+
+    // Table number k to its own part of the output, and the zeros behind it.
+    fn put_at(&self, new: Layout, k: usize, to: Place, out: &mut [u8])
+        requires single { Single k × Writes self.now new × (new.end ≤ length out.old) }
+        requires there { (present_at new.tables k ≡ true) × (to ≡ place_at new.tables k) }
+        ensures { out.new ≡ write_at new k (new_body self.now k) out.old }
+    {
+        let at = to.offset;
+        self.write_table(k, &mut out[at..]);
         construct::pad(out, at, to.length);
     }
-}
 
-// glyf and loca to their own parts of the output, and the zeros behind them.
-fn put_outlines(
-    font: &[u8],
-    s: Source,
-    kept: usize,
-    scratch: &[u16],
-    p: Plan,
-    new: Layout,
-    out: &mut [u8],
-)
-    requires { Writes font.now s scratch.now kept p new × (new.end ≤ length out.old) }
-    ensures { out.new ≡ write_at new 6 (new_body font.now s scratch.now kept 6) (write_at new 2 (new_body font.now s scratch.now kept 2) out.old) }
-{
-    let tables = new.tables;
-    let glyf = tables.places[places::GLYF];
-    let loca = tables.places[places::LOCA];
-    let at = glyf.offset;
-    let to = loca.offset;
-    write_outlines(font, s, kept, scratch, p, &mut out[at..], to - at);
-    construct::pad(out, at, glyf.length);
-    construct::pad(out, to, loca.length);
-}
-
-// The other nine, in tag order.
-fn put_others(
-    font: &[u8],
-    s: Source,
-    kept: usize,
-    scratch: &[u16],
-    p: Plan,
-    new: Layout,
-    out: &mut [u8],
-)
-    requires { Writes font.now s scratch.now kept p new × (new.end ≤ length out.old) }
-    ensures { out.new ≡ others_to new (new_body font.now s scratch.now kept) out.old 11 }
-{
-    let mut k = 0;
-    while k < 11 {
-        if k != places::GLYF && k != places::LOCA {
-            put_table(font, s, kept, scratch, p, new, k, out);
+    // The same, if it is there.
+    fn put_table(&self, new: Layout, k: usize, out: &mut [u8])
+        requires { Single k × Writes self.now new × (new.end ≤ length out.old) }
+        ensures { out.new ≡ write_at new k (new_body self.now k) out.old }
+    {
+        if let Some(to) = new.tables.places[k] {
+            self.put_at(new, k, to, out);
         }
-        k += 1;
     }
-}
 
-// The file, at the start of the output.
-pub fn write_file(
-    font: &[u8],
-    s: Source,
-    kept: usize,
-    scratch: &[u16],
-    p: Plan,
-    new: Layout,
-    out: &mut [u8],
-)
-    requires { Writes font.now s scratch.now kept p new × (new.end ≤ length out.old) }
-    ensures { out.new ≡ over (file (entries (renewed (font_of font.now s) (take kept scratch.now)))) out.old }
-{
-    put_outlines(font, s, kept, scratch, p, new, out);
-    put_others(font, s, kept, scratch, p, new, out);
-    construct::finish(out, new);
+    // glyf and loca to their own parts of the output, and the zeros behind them.
+    fn put_both(&self, new: Layout, glyf: Place, loca: Place, out: &mut [u8])
+        requires writes { Writes self.now new × (new.end ≤ length out.old) }
+        requires places { (glyf ≡ place_at new.tables 2) × (loca ≡ place_at new.tables 6) }
+        ensures { out.new ≡ write_at new 6 (new_body self.now 6) (write_at new 2 (new_body self.now 2) out.old) }
+    {
+        let at = glyf.offset;
+        let to = loca.offset;
+        self.write_outlines(&mut out[at..], to - at);
+        construct::pad(out, at, glyf.length);
+        construct::pad(out, to, loca.length);
+    }
+
+    // The same: they are always there.
+    fn put_outlines(&self, new: Layout, out: &mut [u8])
+        requires { Writes self.now new × (new.end ≤ length out.old) }
+        ensures { out.new ≡ write_at new 6 (new_body self.now 6) (write_at new 2 (new_body self.now 2) out.old) }
+    {
+        let glyf = new.tables.places[places::GLYF].unwrap();
+        let loca = new.tables.places[places::LOCA].unwrap();
+        self.put_both(new, glyf, loca, out);
+    }
+
+    // The other nine, in tag order.
+    fn put_others(&self, new: Layout, out: &mut [u8])
+        requires { Writes self.now new × (new.end ≤ length out.old) }
+        ensures { out.new ≡ others_to new (new_body self.now) out.old 11 }
+    {
+        for k in 0..11 {
+            if k != places::GLYF && k != places::LOCA {
+                self.put_table(new, k, out);
+            }
+        }
+    }
+
+    // The file, at the start of the output.
+    pub fn write_file(&self, new: Layout, out: &mut [u8])
+        requires { Writes self.now new × (new.end ≤ length out.old) }
+        ensures { out.new ≡ over (file (entries (renewed (font_of self.now.font.now self.now.source) (take self.now.kept self.now.scratch.now)))) out.old }
+    {
+        self.put_outlines(new, out);
+        self.put_others(new, out);
+        construct::finish(out, new);
+    }
 }

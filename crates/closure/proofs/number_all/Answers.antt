@@ -1,18 +1,17 @@
-use mathlib.Core.Path.{subst}
-use lib.ListN.{get_or}
-use borrow.Author.Rules.{rules}
-use Rattle.remapper.specs.State.{Asked}
-use Rattle.closure.proofs.Requests.{asking_start, asking_more}
+use Rattle.std.proofs.lemmas.Result.{err_from_is_err_and}
+use Rattle.closure.proofs.Requests.{asking_start, asking_more, asking_no}
 use Rattle.closure.proofs.number_all.Goals as goal
 
-pub loop-i-init : goal.loop-i-init
-loop-i-init c = (search rules, asking_start c.args.n c.args.ids.now c.args.s.now c.requires.1)
+pub loop-id-init : goal.loop-id-init
+loop-id-init c = asking_start _ _ _ c.requires.1
 
-pub loop-i-preserved : goal.loop-i-preserved
-loop-i-preserved c =
-    let a = c.args in
-    let l = c.loop-i in (
-      search rules,
-      asking_more a.n a.ids.now a.s.now l.s l.count l.i l.invariant.1 c.loop-i-test.true c.ask-a.new.s c.in-Of.k
-          (subst (Asked a.n l.s c.ask-a.new.s (get_or a.ids.now l.i 0) l.count) c.in-Of.is c.ask-a.ensures) c.ask-a.auto.s,
-    )
+pub loop-id-preserved : goal.loop-id-preserved
+loop-id-preserved c =
+    let asked = rw c.from.ensures at c.in_ok-count.ensures in
+    asking_more _ _ _ _ _ _ c.loop-id.invariant c.loop-id-test.true _ _ asked c.ask.auto.s
+
+pub returns-in_err-count : goal.returns-in_err-count
+returns-in_err-count c =
+    let p = err_from_is_err_and c.from_residual.result c.from_residual.ensures.1 in
+    let asked = rw c.from.ensures at c.in_err-count.ensures in
+    rw (p.1, p.2) (asking_no _ _ _ _ _ _ c.loop-id.invariant c.loop-id-test.true _ _ asked)

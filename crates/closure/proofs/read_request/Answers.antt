@@ -1,40 +1,25 @@
 -- Nothing waits, so the stack's top is the last request not yet read; it is in the roster.
-use mathlib.Core.Path.{subst}
-use native.Mathlib.Omega.{arith}
-use Rattle.model.specs.Glyf.{width}
-use Rattle.glyf.specs.Pieces.{length_at}
-use Rattle.closure.specs.Closes.{parts_in}
-use Rattle.closure.specs.Turns.{Opened}
-use Rattle.closure.specs.declared.Read.TheVariants.{Kept, Bad}
-use Rattle.closure.proofs.Turning.{underway_linked, request-low, turned-request}
+use Rattle.std.proofs.Common.{◌≡◌, Some, arith}
+use Rattle.std.proofs.lemmas.Result.{err_from_is_err_and}
+use Rattle.closure.proofs.Turning.{underway_linked, request-low, unread, turned-request}
 use Rattle.closure.proofs.read_request.Goals as goal
 
-pub read_glyph-r-requires : goal.read_glyph-r-requires
-read_glyph-r-requires c =
-    let a = c.args in
+pub read_glyph-requires : goal.read_glyph-requires
+read_glyph-requires c =
     let h = c.requires in
-    let q = c.old_id-q in
-    let low = request-low a.n a.s.now a.count a.left h.2 h.3 (omega (arith, c.if-left-eq0.false)) q.result q.ensures in
-    (h.0, low, h.1, underway_linked a.n a.s.now a.count a.left h.2)
+    (h.0, request-low _ _ _ _ h.2 h.3 (omega arith) _ c.old_id-q.ensures, h.1, underway_linked _ _ _ _ h.2)
 
-pub returns-in-Kept : goal.returns-in-Kept
-returns-in-Kept c =
-    let a = c.args in
+pub returns-in_err-length : goal.returns-in_err-length
+returns-in_err-length c =
     let h = c.requires in
-    let q = c.old_id-q in
-    let g = c.read_glyph-r in
-    let parts = parts_in (width a.long) a.n a.loca.now a.glyf.now in
-    let lengths = length_at (width a.long) a.n a.loca.now a.glyf.now in
-    turned-request a.n a.s.now a.count a.left h.2 h.3 (omega (arith, c.if-left-eq0.false)) q.result q.ensures parts lengths g.new.s (Kept c.in-Kept.length)
-    (subst (Opened a.n a.s.now g.new.s (parts q.result) (lengths q.result)) c.in-Kept.is g.ensures)
+    let p = err_from_is_err_and c.from_residual.result c.from_residual.ensures.1 in
+    let x = unread _ _ c.in_err-length.ensures.value in
+    let opened = rw x.0 at c.read_glyph.ensures in
+    rw (p.1, p.2, x.1) (turned-request _ _ _ _ h.2 h.3 (omega arith) _ c.old_id-q.ensures _ _ _ _ opened)
 
-pub returns-in-Bad : goal.returns-in-Bad
-returns-in-Bad c =
-    let a = c.args in
+pub returns : goal.returns
+returns c =
     let h = c.requires in
-    let q = c.old_id-q in
-    let g = c.read_glyph-r in
-    let parts = parts_in (width a.long) a.n a.loca.now a.glyf.now in
-    let lengths = length_at (width a.long) a.n a.loca.now a.glyf.now in
-    turned-request a.n a.s.now a.count a.left h.2 h.3 (omega (arith, c.if-left-eq0.false)) q.result q.ensures parts lengths g.new.s Bad
-    (subst (Opened a.n a.s.now g.new.s (parts q.result) (lengths q.result)) c.in-Bad.is g.ensures)
+    let read : c.read_glyph.result ≡ Some c.in_ok-length.length = grind arith in
+    let opened = rw read at c.read_glyph.ensures in
+    turned-request _ _ _ _ h.2 h.3 (omega arith) _ c.old_id-q.ensures _ _ _ _ opened

@@ -7,8 +7,8 @@ use Rattle.closure.specs.Turns.{ahead}
 use Rattle.closure.proofs.Running.{Running}
 use Rattle.closure.proofs.run.Given as goal
 
-abbrev pub invariant-loop-a : goal.invariant-loop-a
-invariant-loop-a l = Running (parts_in (width l.long) l.n l.loca l.glyf) (length_at (width l.long) l.n l.loca l.glyf) l.n l.initial.s l.count l.s l.k l.left l.even l.raw
+abbrev pub invariant-loop-turn : goal.invariant-loop-turn
+invariant-loop-turn l = Running (parts_in (width l.long) l.n l.loca l.glyf) (length_at (width l.long) l.n l.loca l.glyf) l.n l.initial.s l.count l.s l.kept l.left l.even l.raw
 
-abbrev pub decreases-loop-a : goal.decreases-loop-a
-decreases-loop-a l = ahead l.k l.left
+abbrev pub decreases-loop-turn : goal.decreases-loop-turn
+decreases-loop-turn l = ahead l.kept l.left

@@ -1,6 +1,12 @@
 -- Rows, then the header before them, then the adjustment: the law `finished` joins what the three calls leave.
-use Rattle.std.proofs.Common.{arith}
-use Rattle.construct.specs.Construct.{directory_length}
+use Rattle.std.proofs.Common.{◌≡◌, ◌+◌, ◌*◌, ◌%◌, ◌^◌, take, sym, ap, subst, arith}
+use Rattle.std.specs.Prelude.{Option}
+use Rattle.std.specs.Option.{unwrap_or}
+use Rattle.model.specs.Bytes.{be32, put}
+use Rattle.model.specs.File.{checksum}
+use Rattle.places.specs.declared.Place.{Place}
+use Rattle.places.specs.Places.{missing}
+use Rattle.construct.specs.Construct.{directory_length, adjusting}
 use Rattle.construct.proofs.Lists.{count_small}
 use Rattle.construct.proofs.Readiness.{place-room, first-room, count-some}
 use Rattle.construct.proofs.Rows.{finished}
@@ -18,15 +24,15 @@ write_header-requires c =
     let o = r.room in
     (omega arith, omega arith, omega arith)
 
-pub overflow_mul-count : goal.overflow_mul-count
-overflow_mul-count c =
+pub overflow_mul-new : goal.overflow_mul-new
+overflow_mul-new c =
     let a = c.args in
     let m = count_small a.new.tables 11 in
     let e = c.requires.placed.counts in
     omega arith
 
-pub overflow_add-count : goal.overflow_add-count
-overflow_add-count c =
+pub overflow_add-new : goal.overflow_add-new
+overflow_add-new c =
     let a = c.args in
     let m = count_small a.new.tables 11 in
     let e = c.requires.placed.counts in
@@ -41,9 +47,12 @@ adjust-requires c =
     let p = place-room a.new r.placed 3 (omega arith) r.head in
     let o = r.room in
     let l = r.long in
+    let e = ap (λ (q : Option Place). (unwrap_or q missing).offset) c.unwrap-head.ensures in
     (omega arith, omega arith)
 
 pub returns : goal.returns
 returns c =
     let a = c.args in
-    finished a.new a.out.now c.requires _ _ _ _ c.write_rows-sum.ensures.gives c.write_rows-sum.ensures.holds c.write_header.ensures c.adjust.ensures
+    let e = ap (λ (q : Option Place). unwrap_or q missing) c.unwrap-head.ensures in
+    finished a.new a.out.now c.requires _ _ _ _ c.write_rows-sum.ensures.gives c.write_rows-sum.ensures.holds c.write_header.ensures
+    (subst (λ (p : Place). c.adjust.new.out ≡ put c.write_header.new.out (p.offset + 8) (be32 (adjusting ((checksum (take (12 + 16 * a.new.count) c.write_header.new.out) + c.write_rows-sum.result) % 2 ^ 32)))) (sym e) c.adjust.ensures)

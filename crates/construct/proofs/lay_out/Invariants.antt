@@ -1,12 +1,9 @@
--- The places so far stand before unmarked ones, and the next table starts where those before it end.
-use Rattle.std.proofs.Common.{◌≡◌, ◌-◌, ◌≤◌, ◌++◌, drop}
-use Rattle.places.specs.Places.{nowhere}
+-- The places so far stand before the old ones, and the next table starts where those before it end.
+use Rattle.std.proofs.Common.{◌≡◌, ◌++◌, drop}
 use Rattle.construct.specs.Construct.{count_to, start_at, directory_length, places_to}
 use Rattle.construct.proofs.lay_out.Given as goal
 
-abbrev pub invariant-loop-k : goal.invariant-loop-k
-invariant-loop-k l =
-    (l.k ≤ 11) × (l.at ≡ start_at (directory_length (count_to l.sized 11)) l.sized l.k) × (l.tables.places ≡ places_to l.sized l.k ++ drop l.k nowhere.places)
-
-abbrev pub decreases-loop-k : goal.decreases-loop-k
-decreases-loop-k l = 11 - l.k
+abbrev pub invariant-loop-place : goal.invariant-loop-place
+invariant-loop-place l =
+    (l.at ≡ start_at (directory_length (count_to l.fn.sized 11)) l.fn.sized l.place-index)
+    × (l.place-items ≡ places_to l.fn.sized l.place-index ++ drop l.place-index l.fn.sized.places)

@@ -13,10 +13,10 @@ pub loop-i-preserved : goal.loop-i-preserved
 loop-i-preserved c =
     let a = c.args in
     let l = c.loop-i in
-    (omega arith, l.invariant.1 ∙ noted_on a.font.now a.count a.dir.now l.i l.t (omega arith) ∙ ap (noted_rows a.font.now (drop (l.i + 1) (rows a.count a.dir.now))) (sym (c.noted-t.ensures ∙ ap (λ (b : Bytes). noted_row a.font.now (row_of b) l.t) (tail (16 * l.i) a.dir.now))))
+    l.invariant ∙ noted_on a.font.now a.count a.dir.now l.i l.t (omega arith) ∙ ap (noted_rows a.font.now (drop (l.i + 1) (rows a.count a.dir.now))) (sym (c.noted-t.ensures ∙ ap (λ (b : Bytes). noted_row a.font.now (row_of b) l.t) (tail (16 * l.i) a.dir.now)))
 
 pub returns : goal.returns
 returns c =
     let a = c.args in
     let l = c.loop-i in
-    sym (l.invariant.1 ∙ noted_end a.font.now a.count a.dir.now l.i l.t (omega arith))
+    sym (l.invariant ∙ noted_end a.font.now a.count a.dir.now l.i l.t (omega arith))

@@ -1,24 +1,19 @@
--- By which table the record is of, and whether it has a place already.
+-- By whether it is one of the eleven, and whether that has a place already.
 use mathlib.Core.Path.{ap, ◌∙◌}
+use mathlib.Core.Bool.{not}
 use native.Mathlib.Omega.{arith}
-use lib.ListN.{set}
-use Rattle.model.specs.Bytes.{place}
-use Rattle.model.specs.Font.{row_of}
-use Rattle.places.specs.Places.{tag_words}
 use Rattle.face.proofs.Found.{noted_other, noted_old, noted_new}
 use Rattle.face.proofs.noted.Goals as goal
 
-pub returns-then-k-ge11 : goal.returns-then-k-ge11
-returns-then-k-ge11 c = let a = c.args in noted_other a.font.now (row_of a.row.now) a.t _ (c.known-k.ensures ∙ ap (place tag_words) c.tag_at.ensures) c.if-k-ge11.true
+pub returns-in_default : goal.returns-in_default
+returns-in_default c = let a = c.args in noted_other a.font.now a.row.now a.t (λ i. omega (arith, c.type_inv.row i)) c.requires _ _ c.tag_at.ensures c.known.ensures c.in_default.is
 
-pub returns-then-old : goal.returns-then-old
-returns-then-old c =
+pub returns-else-is_none : goal.returns-else-is_none
+returns-else-is_none c =
     let a = c.args in
-    let k = c.known-k.ensures ∙ ap (place tag_words) c.tag_at.ensures in
-    noted_old a.font.now (row_of a.row.now) a.t _ k (omega arith) c.if-old.true
+    noted_old a.font.now a.row.now a.t (λ i. omega (arith, c.type_inv.row i)) c.requires _ _ c.tag_at.ensures c.known.ensures _ c.in-Some.is (c.is_none.ensures ∙ ap not c.if-is_none.false)
 
-pub returns : goal.returns
-returns c =
+pub returns-then-is_none : goal.returns-then-is_none
+returns-then-is_none c =
     let a = c.args in
-    let k = c.known-k.ensures ∙ ap (place tag_words) c.tag_at.ensures in
-    noted_new a.font.now (row_of a.row.now) a.t _ k (omega arith) c.if-old.false _ (ap (set a.t.places c.known-k.result) c.place_of.ensures)
+    noted_new a.font.now a.row.now a.t (λ i. omega (arith, c.type_inv.row i)) c.requires _ _ c.tag_at.ensures c.known.ensures _ c.in-Some.is (c.is_none.ensures ∙ ap not c.if-is_none.true) _ c.place_of.ensures

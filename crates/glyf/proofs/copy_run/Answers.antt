@@ -1,8 +1,6 @@
 -- The part that is copied is the run's.
-use mathlib.Core.Path.{ap, ◌∙◌}
-use Prim.Native.Nat.{ℕ, ◌-◌}
+use Rattle.std.proofs.Common.{ap, ◌∙◌, ℕ, ◌-◌, take, drop}
 use native.Mathlib.Nat.{add-sub_cancel_left}
-use lib.ListN.{take, drop}
 use Rattle.model.specs.Bytes.{put}
 use Rattle.glyf.specs.Pieces.{with_run}
 use Rattle.glyf.proofs.copy_run.Goals as goal

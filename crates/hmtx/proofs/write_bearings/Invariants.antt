@@ -1,14 +1,9 @@
 -- `hmtx::write_bearings` meets its contract: a turn writes one more record of 2 bytes behind those of the first i glyphs.
-use Prim.Native.Nat.{◌-◌, ◌≤◌}
-use mathlib.Core.Path.{◌≡◌}
+use Rattle.std.proofs.Common.{◌≡◌, take}
 use mathlib.Core.List.{flat_map}
-use lib.ListN.{length, take}
 use Rattle.model.specs.Bytes.{over}
 use Rattle.hmtx.proofs.Written.{bearing_bytes}
 use Rattle.hmtx.proofs.write_bearings.Given as goal
 
 abbrev pub invariant-loop-i : goal.invariant-loop-i
-invariant-loop-i l = (l.i ≤ length l.roster) × (length l.out ≡ length l.initial.out) × (l.out ≡ over (flat_map (bearing_bytes l.hmtx l.c) (take l.i l.roster)) l.initial.out)
-
-abbrev pub decreases-loop-i : goal.decreases-loop-i
-decreases-loop-i l = length l.roster - l.i
+invariant-loop-i l = l.out ≡ over (flat_map (bearing_bytes l.hmtx l.c) (take l.i l.roster)) l.initial.out

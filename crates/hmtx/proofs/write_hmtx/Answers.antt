@@ -14,16 +14,16 @@ pub returns : goal.returns
 returns c =
     let a = c.args in
     let p = c.requires in
-    let r = metrics-ready a.hhea.now a.hmtx.now a.roster.now c.u16_at.result c.u16_at.ensures p.roster_value (omega arith) (omega arith) in
+    let r = metrics-ready a.hhea.now a.hmtx.now a.roster.now c.from.result (omega arith) p.roster_value (omega arith) (omega arith) in
     rw r.same c.write_metrics.ensures
 
 pub write_metrics-requires-clause-count_in_bounds : goal.write_metrics-requires-clause-count_in_bounds
 write_metrics-requires-clause-count_in_bounds c =
     let a = c.args in
     let p = c.requires in
-    let r = metrics-ready a.hhea.now a.hmtx.now a.roster.now c.u16_at.result c.u16_at.ensures p.roster_value (omega arith) (omega arith) in
-    let ms = metrics_at a.hmtx.now c.u16_at.result a.roster.now in
-    let l : length ms ≡ length a.roster.now = length-metrics_at a.hmtx.now c.u16_at.result a.roster.now in
+    let r = metrics-ready a.hhea.now a.hmtx.now a.roster.now c.from.result (omega arith) p.roster_value (omega arith) (omega arith) in
+    let ms = metrics_at a.hmtx.now c.from.result a.roster.now in
+    let l : length ms ≡ length a.roster.now = length-metrics_at a.hmtx.now c.from.result a.roster.now in
     let e : a.count ≡ new_count ms = rw r.same at p.count_value in
     let some : 0 < length ms = omega arith in
     let most : a.count ≤ length ms = rw e (new_count-most ms some) in
@@ -34,4 +34,4 @@ write_metrics-requires-clause-count_in_bounds c =
 pub write_metrics-requires-clause-room : goal.write_metrics-requires-clause-room
 write_metrics-requires-clause-room c =
     let a = c.args in
-    (metrics-ready a.hhea.now a.hmtx.now a.roster.now c.u16_at.result c.u16_at.ensures c.requires.roster_value (omega arith) (omega arith)).room
+    (metrics-ready a.hhea.now a.hmtx.now a.roster.now c.from.result (omega arith) c.requires.roster_value (omega arith) (omega arith)).room

@@ -1,10 +1,6 @@
--- Equal numbers of eight bytes are eight equal bytes more.
-use Rattle.std.proofs.Common.{◌-◌}
+use Rattle.std.proofs.Common.{◌*◌}
 use Rattle.name.specs.Rows.{Alike}
 use Rattle.name.proofs.alike.Given as goal
 
-abbrev pub invariant-loop-k : goal.invariant-loop-k
-invariant-loop-k l = Alike l.name l.at l.start l.size l.k
-
-abbrev pub decreases-loop-k : goal.decreases-loop-k
-decreases-loop-k l = l.size - l.k
+abbrev pub invariant-loop-word : goal.invariant-loop-word
+invariant-loop-word l = Alike l.name l.at l.start l.size (8 * l.word)

@@ -1,10 +1,6 @@
--- Equal numbers of eight bytes are eight equal bytes more, four times a turn.
-use Rattle.std.proofs.Common.{◌-◌}
+use Rattle.std.proofs.Common.{◌*◌}
 use Rattle.name.specs.Rows.{Alike}
 use Rattle.name.proofs.alike_blocks.Given as goal
 
-abbrev pub invariant-loop-k : goal.invariant-loop-k
-invariant-loop-k l = Alike l.name l.at l.start l.size l.k
-
-abbrev pub decreases-loop-k : goal.decreases-loop-k
-decreases-loop-k l = l.size - l.k
+abbrev pub invariant-loop-block : goal.invariant-loop-block
+invariant-loop-block l = Alike l.name l.at l.start l.size (32 * l.block)

@@ -1,4 +1,4 @@
--- A sum of eight bytes, each below 256, fits 64 bits.
+-- The sum that the word is, with the bytes' worths multiplied out.
 use Rattle.std.proofs.Common.{arith}
 use Rattle.name.specs.Hashed.{eight_at}
 use Rattle.name.proofs.eight_at.Goals as goal

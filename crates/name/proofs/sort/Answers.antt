@@ -1,16 +1,21 @@
-use Rattle.std.proofs.Common.{arith}
-use Rattle.name.proofs.Order.{sort-place, sort-next}
+-- The strings differ, so that none is found: each has a place of its own.
+use Rattle.std.proofs.Common.{◌≡◌, Err, arith}
+use Rattle.name.proofs.Order.{sort-nowhere, sort-next}
+use Rattle.name.proofs.sort.Goals.{in-Ok, in-Ok-2}
 use Rattle.name.proofs.sort.Goals as goal
 
 pub insert-requires : goal.insert-requires
 insert-requires c =
-    let r = c in
     let l = c.loop-k in
-    let s = sort-place r.args.name.now r.args.firsts.now r.args.order.now l.order r.args.used l.k r.requires l.invariant.1 c.loop-k-test.true l.invariant.2 _ c.find_earlier-found.ensures in
-    (omega (arith, s.within, c.place.ensures), omega (arith, l.invariant.1, r.requires.places, c.loop-k-test.true), omega (arith, r.requires.few, c.loop-k-test.true))
+    let f = c.find_earlier in
+    let n = sort-nowhere c.requires c.loop-k-test.true l.invariant f.ensures in
+    let e : f.result ≡ Err c.match-find_earlier.place = elim c.match-find_earlier.branch [ in-Ok w ↦ n _ _ w.in-Ok.is w.place-is | in-Ok-2 w ↦ n _ _ w.in-Ok.is w.place-is ] in
+    (omega (arith, (f.ensures.nowhere _ e).within), omega (arith, c.requires.places), omega (arith, c.requires.few))
 
 pub loop-k-preserved : goal.loop-k-preserved
 loop-k-preserved c =
-    let r = c in
     let l = c.loop-k in
-    (omega arith, omega arith, sort-next r.args.name.now r.args.firsts.now r.args.order.now l.order r.args.used l.k r.requires l.invariant.1 c.loop-k-test.true l.invariant.2 _ c.find_earlier-found.ensures _ (rw c.place.ensures at c.insert.ensures))
+    let f = c.find_earlier in
+    let n = sort-nowhere c.requires c.loop-k-test.true l.invariant f.ensures in
+    let e : f.result ≡ Err c.match-find_earlier.place = elim c.match-find_earlier.branch [ in-Ok w ↦ n _ _ w.in-Ok.is w.place-is | in-Ok-2 w ↦ n _ _ w.in-Ok.is w.place-is ] in
+    sort-next c.requires c.loop-k-test.true l.invariant f.ensures _ e _ c.insert.ensures

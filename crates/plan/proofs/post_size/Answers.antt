@@ -1,5 +1,4 @@
 -- By whether the table is there.
-use borrow.Author.Tests.{not-true, not-false}
 use native.Mathlib.Omega.{arith}
 use lib.Dec.{lit<}
 use Rattle.face.proofs.Gather.{length-content}
@@ -7,13 +6,13 @@ use Rattle.plan.proofs.Rostered.{some, few, fewer, most}
 use Rattle.plan.proofs.Planning.{post-absent, post-present}
 use Rattle.plan.proofs.post_size.Goals as goal
 
-pub returns-then-not-p : goal.returns-then-not-p
-returns-then-not-p c = let a = c.args in post-absent a.font.now a.s.tables a.s.n a.kept a.scratch.now (not-true _ c.if-not-p.true)
+pub returns-then-is_none : goal.returns-then-is_none
+returns-then-is_none c = let a = c.args in post-absent a.font.now a.s.tables a.s.n a.kept a.scratch.now c.if-is_none.ensures
 
 pub returns : goal.returns
 returns c =
     let a = c.args in
-    post-present a.font.now a.s.tables a.s.n a.kept a.scratch.now _ _ _ (not-false _ c.if-not-p.false) c.table.ensures c.measure.ensures
+    post-present a.font.now a.s.tables a.s.n a.kept a.scratch.now _ _ _ c.if-is_none.ensures c.table.ensures c.measure.ensures
 
 pub measure-requires-clause-kept_bound : goal.measure-requires-clause-kept_bound
 measure-requires-clause-kept_bound c =

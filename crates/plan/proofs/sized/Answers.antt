@@ -2,10 +2,10 @@
 use Rattle.plan.specs.Steps.{sized_place}
 use Rattle.plan.proofs.sized.Goals as goal
 
-pub returns-then-not-present : goal.returns-then-not-present
+pub returns-then-there : goal.returns-then-there
 unfolding sized_place
-returns-then-not-present c = rw c.if-not-present.true
+returns-then-there c = rw c.if-there.true
 
-pub returns : goal.returns
+pub returns-else-there : goal.returns-else-there
 unfolding sized_place
-returns c = rw c.if-not-present.false
+returns-else-there c = rw c.if-there.false

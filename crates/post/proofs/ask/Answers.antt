@@ -2,30 +2,23 @@ use mathlib.Core.Logic.{inl, inr}
 use native.Mathlib.Omega.{arith}
 use Rattle.post.proofs.Grow.{count-start, count_turn, count-missing, count_end}
 use Rattle.post.proofs.ask.Goals as goal
-use Rattle.post.proofs.ask.Goals.{then-i-ge258, else-i-ge258, then-want-i, else-want-i}
+use Rattle.post.proofs.ask.Goals.{then-i-ge258, else-i-ge258}
 
-pub loop-j-init : goal.loop-j-init
-loop-j-init c =
-    let a = c.args in
-    count-start a.post.now a.ids.now
+pub loop-g-init : goal.loop-g-init
+loop-g-init c = count-start c.args.post.now c.args.ids.now
 
 pub returns-then-count-g : goal.returns-then-count-g
 returns-then-count-g c =
-    let a = c.args in
-    let l = c.loop-j in
-    count-missing a.post.now a.ids.now l.own l.want l.j l.invariant c.loop-j-test.true (omega arith)
+    let l = c.loop-g in
+    count-missing c.args.post.now c.args.ids.now l.own l.want l.g-index l.invariant c.loop-g-test.true (omega arith)
 
-pub loop-j-preserved : goal.loop-j-preserved
-loop-j-preserved c =
-    let a = c.args in
-    let l = c.loop-j in
-    count_turn a.post.now a.ids.now l.own l.want c.if-i-ge258.own c.if-want-i.want l.j c.index_at-i.result
-    l.invariant c.loop-j-test.true (omega arith) c.index_at-i.ensures.0
+pub loop-g-preserved : goal.loop-g-preserved
+loop-g-preserved c =
+    let l = c.loop-g in
+    count_turn c.args.post.now c.args.ids.now l.own l.want c.if-i-ge258.own _ l.g-index c.index_at-i.result
+    l.invariant c.loop-g-test.true (omega arith) c.index_at-i.ensures.0
     (elim c.if-i-ge258.branch [ then-i-ge258 w ↦ inl (omega arith, w.own-is) | else-i-ge258 w ↦ inr (omega arith, w.own-is) ])
-    (elim c.if-want-i.branch [ then-want-i w ↦ omega arith | else-want-i w ↦ omega arith ])
+    (omega arith)
 
 pub returns : goal.returns
-returns c =
-    let a = c.args in
-    let l = c.loop-j in
-    count_end a.post.now a.ids.now l.own l.want l.j l.invariant c.loop-j-test.false
+returns c = count_end c.args.post.now c.args.ids.now c.loop-g.own c.loop-g.want c.loop-g.g-index c.loop-g.invariant c.loop-g-test.false

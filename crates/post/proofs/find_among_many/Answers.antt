@@ -1,12 +1,11 @@
 -- All names found with the index in an array of its own.
 use Prim.Native.Nat.{◌*◌, ◌-◌}
-use mathlib.Core.Path.{◌≡◌, sym, ◌∙◌}
+use mathlib.Core.Path.{sym, ◌∙◌}
 use native.Mathlib.Omega.{arith}
 use lib.ListN.{length}
 use Rattle.model.proofs.Res.{true_false}
-use Rattle.post.specs.Found.{places_at, index_for}
+use Rattle.post.specs.Found.{places_at}
 use Rattle.post.proofs.Found.{behind-same, placed_many, sought}
-use borrow.Author.Rules.{rules}
 use Rattle.post.proofs.find_among_many.Goals as goal
 
 pub returns : goal.returns
@@ -17,9 +16,3 @@ returns c =
     let z = c.names_size.ensures in
     sought a.post.now a.n (2 * a.n - a.kept) a.kept _ a.scratch.now a.scratch.now _ (omega arith) (omega arith) (omega arith) (rw f)
     (behind-same a.n a.n a.scratch.now) (λ e. true_false (sym f ∙ e)) z.0 z.1
-
-pub names_size-requires-clause-index : goal.names_size-requires-clause-index
-unfolding index_for
-names_size-requires-clause-index c =
-    let l : length c.fill.new.room ≡ 8192 = search rules in
-    rw l c.fill.ensures

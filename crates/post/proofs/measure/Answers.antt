@@ -6,14 +6,14 @@ use lib.ListN.{take}
 use lib.Seq.{length-take-le}
 use Rattle.post.proofs.measure.Goals as goal
 
-pub overflow_add-result-in-Wanted : goal.overflow_add-result-in-Wanted
-overflow_add-result-in-Wanted c =
+pub overflow_add-result-in-Some : goal.overflow_add-result-in-Some
+overflow_add-result-in-Some c =
     let a = c.args in
     let ids = take a.kept a.scratch.now in
     omega (arith, c.find_names.ensures.size, names_bounded a.post.now ids (omega arith), length-take-le a.kept a.scratch.now (omega arith))
 
-pub returns-in-Wanted : goal.returns-in-Wanted
-returns-in-Wanted c =
+pub returns-in-Some : goal.returns-in-Some
+returns-in-Some c =
     let a = c.args in
-    let t = rw c.in-Wanted.is at c.test.ensures in
+    let t = rw c.in-Some.is at c.in_ok-test.ensures in
     measured-cut a.post.now a.scratch.now _ a.n a.kept c.find_names.result (omega arith) (omega arith) t.0 c.find_names.ensures

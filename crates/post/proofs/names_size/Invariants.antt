@@ -1,5 +1,5 @@
 -- The invariant: the names of the roster places so far are found, and the size is that of their bytes; a name is no longer than the table, so that the sum fits.
-use Prim.Native.Nat.{◌-◌, ◌≤◌, ◌*◌}
+use Prim.Native.Nat.{◌≤◌, ◌*◌}
 use mathlib.Core.Path.{◌≡◌}
 use mathlib.Core.List.{flat_map}
 use lib.ListN.{length, take}
@@ -8,7 +8,4 @@ use Rattle.post.specs.Found.{Placing}
 use Rattle.post.proofs.names_size.Given as goal
 
 abbrev pub invariant-loop-j : goal.invariant-loop-j
-invariant-loop-j l = (l.j ≤ l.kept) × (l.size ≤ 4294967296 * l.j) × (l.size ≡ length (flat_map (name_bytes l.post) (take l.j (take l.kept l.initial.scratch)))) × Placing l.post l.n l.at l.j l.initial.scratch l.scratch
-
-abbrev pub decreases-loop-j : goal.decreases-loop-j
-decreases-loop-j l = l.kept - l.j
+invariant-loop-j l = (l.size ≤ 4294967296 * l.j) × (l.size ≡ length (flat_map (name_bytes l.post) (take l.j (take l.kept l.initial.scratch)))) × Placing l.post l.n l.at l.j l.initial.scratch l.scratch

@@ -11,7 +11,7 @@ use Rattle.post.proofs.write_indexes.Goals.{then-i-gt257, else-i-gt257}
 
 pub loop-j-init : goal.loop-j-init
 unfolding flat_map index_bytes stored_names
-loop-j-init c = (search rules, search rules, search rules, sym (over_nil c.args.out.now))
+loop-j-init c = (search rules, sym (over_nil c.args.out.now))
 
 pub overflow_add-next : goal.overflow_add-next
 overflow_add-next c =
@@ -32,14 +32,12 @@ loop-j-preserved c =
     let a = c.args in
     let l = c.loop-j in
     let lt = c.loop-j-test.true in (
-      search rules,
-      search rules,
       elim c.if-i-gt257.branch [
         | then-i-gt257 w ↦ omega (arith, stored-new a.post.now a.ids.now l.j lt (omega arith))
         | else-i-gt257 w ↦ omega (arith, stored-kept a.post.now a.ids.now l.j lt (omega arith))
       ],
       c.put_u16.ensures ∙ elim c.if-i-gt257.branch [
-        | then-i-gt257 w ↦ rw (w.i-is, l.invariant.2) (index-new a.post.now a.ids.now a.out.now l.out l.j lt l.invariant.3 (omega arith))
-        | else-i-gt257 w ↦ rw (w.i-is, c.index_at-i.ensures.0) (index_kept a.post.now a.ids.now a.out.now l.out l.j lt l.invariant.3 (omega arith))
+        | then-i-gt257 w ↦ rw (w.i-is, l.invariant.0) (index-new a.post.now a.ids.now a.out.now l.out l.j lt l.invariant.1 (omega arith))
+        | else-i-gt257 w ↦ rw (w.i-is, c.index_at-i.ensures.0) (index_kept a.post.now a.ids.now a.out.now l.out l.j lt l.invariant.1 (omega arith))
       ],
     )

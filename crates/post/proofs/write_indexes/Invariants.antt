@@ -1,5 +1,5 @@
 -- The invariant: out holds the indexes so far, and `next` is 258 and as many as were stored.
-use Prim.Native.Nat.{◌-◌, ◌≤◌, ◌+◌}
+use Prim.Native.Nat.{◌+◌}
 use mathlib.Core.Path.{◌≡◌}
 use lib.ListN.{length, take}
 use Rattle.model.specs.Bytes.{over}
@@ -7,7 +7,4 @@ use Rattle.post.specs.Post.{index_bytes, stored_names}
 use Rattle.post.proofs.write_indexes.Given as goal
 
 abbrev pub invariant-loop-j : goal.invariant-loop-j
-invariant-loop-j l = (l.j ≤ length l.ids) × (length l.out ≡ length l.initial.out) × (l.next ≡ 258 + length (stored_names l.post (take l.j l.ids))) × (l.out ≡ over (index_bytes l.post (take l.j l.ids)) l.initial.out)
-
-abbrev pub decreases-loop-j : goal.decreases-loop-j
-decreases-loop-j l = length l.ids - l.j
+invariant-loop-j l = (l.next ≡ 258 + length (stored_names l.post (take l.j l.ids))) × (l.out ≡ over (index_bytes l.post (take l.j l.ids)) l.initial.out)

@@ -12,17 +12,15 @@ use Rattle.post.proofs.write_names.Goals as goal
 
 pub loop-j-init : goal.loop-j-init
 unfolding flat_map
-loop-j-init c = (search rules, search rules, search rules, sym (over_nil c.args.out.now))
+loop-j-init c = (search rules, sym (over_nil c.args.out.now))
 
 pub loop-j-preserved : goal.loop-j-preserved
 loop-j-preserved c =
     let a = c.args in
     let l = c.loop-j in
     let t = names-turn a.post.now a.ids.now l.j c.loop-j-test.true in (
-      search rules,
-      search rules,
       omega arith,
-      ◌∙◌ {b = put l.out l.at (name_bytes a.post.now (get_or a.ids.now l.j 0))} c.put_name-at.ensures.0 (names_write a.post.now a.ids.now a.out.now l.out l.j l.at c.loop-j-test.true l.invariant.2 l.invariant.3),
+      ◌∙◌ {b = put l.out l.at (name_bytes a.post.now (get_or a.ids.now l.j 0))} c.put_name-at.ensures.0 (names_write a.post.now a.ids.now a.out.now l.out l.j l.at c.loop-j-test.true l.invariant.0 l.invariant.1),
     )
 
 pub put_name-at-requires-clause-g_in_bounds_2 : goal.put_name-at-requires-clause-g_in_bounds_2

@@ -1,5 +1,4 @@
 -- The invariant: out holds the bytes of the glyphs so far, and `at` is behind them.
-use Prim.Native.Nat.{◌-◌, ◌≤◌}
 use mathlib.Core.Path.{◌≡◌}
 use mathlib.Core.List.{flat_map}
 use lib.ListN.{length, take}
@@ -8,7 +7,4 @@ use Rattle.post.specs.Post.{name_bytes}
 use Rattle.post.proofs.write_names.Given as goal
 
 abbrev pub invariant-loop-j : goal.invariant-loop-j
-invariant-loop-j l = (l.j ≤ length l.ids) × (length l.out ≡ length l.initial.out) × (l.at ≡ length (flat_map (name_bytes l.post) (take l.j l.ids))) × (l.out ≡ over (flat_map (name_bytes l.post) (take l.j l.ids)) l.initial.out)
-
-abbrev pub decreases-loop-j : goal.decreases-loop-j
-decreases-loop-j l = length l.ids - l.j
+invariant-loop-j l = (l.at ≡ length (flat_map (name_bytes l.post) (take l.j l.ids))) × (l.out ≡ over (flat_map (name_bytes l.post) (take l.j l.ids)) l.initial.out)

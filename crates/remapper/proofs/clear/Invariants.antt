@@ -1,12 +1,7 @@
--- The first i numbers are zeros.
-use Prim.Native.Nat.{◌-◌, ◌≤◌}
-use mathlib.Core.Path.{◌≡◌}
-use lib.ListN.{length, replicate}
+-- The first k blocks are zeros.
+use Rattle.std.proofs.Common.{◌≡◌, ◌*◌, replicate}
 use Rattle.model.specs.Bytes.{put}
 use Rattle.remapper.proofs.clear.Given as goal
 
-abbrev pub invariant-loop-i : goal.invariant-loop-i
-invariant-loop-i l = (l.i ≤ l.count) × (length l.s ≡ length l.initial.s) × (l.s ≡ put l.initial.s l.at (replicate l.i 0))
-
-abbrev pub decreases-loop-i : goal.decreases-loop-i
-decreases-loop-i l = l.count - l.i
+abbrev pub invariant-loop-k : goal.invariant-loop-k
+invariant-loop-k l = l.s ≡ put l.initial.s l.at (replicate (512 * l.k) 0)

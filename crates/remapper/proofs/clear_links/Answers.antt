@@ -1,9 +1,5 @@
 -- Two rows side by side are one run of zeros.
-use mathlib.Core.Logic.{inr}
-use mathlib.Core.Path.{◌≡◌, ◌∙◌, ap}
-use Prim.Native.Nat.{ℕ, ◌+◌, ◌*◌}
-use native.Mathlib.Omega.{arith}
-use lib.ListN.{replicate}
+use Rattle.std.proofs.Common.{inr, ◌≡◌, ◌∙◌, ap, ℕ, ◌+◌, ◌*◌, arith, replicate}
 use Rattle.model.specs.Bytes.{put}
 use Rattle.remapper.proofs.Clears.{sparse_put, more-zeros}
 use Rattle.remapper.proofs.clear_links.Goals as goal
@@ -19,6 +15,6 @@ returns c =
     let pre = c.requires in
     let second : 3 * a.n ≡ 2 * a.n + a.n = omega arith in
     let both : a.n + a.n ≡ 2 * a.n = omega arith in
-    (more-zeros a.s.now c.clear_row.new.s _ (2 * a.n) a.n a.n (omega (arith, pre.1)) c.clear_row.ensures
-    (c.clear_row-2.ensures ∙ ap (λ (x : ℕ). put c.clear_row.new.s x (replicate a.n 0)) second)).0
+    more-zeros a.s.now c.clear_row.new.s _ (2 * a.n) a.n a.n (omega (arith, pre.1)) c.clear_row.ensures
+    (c.clear_row-2.ensures ∙ ap (λ (x : ℕ). put c.clear_row.new.s x (replicate a.n 0)) second)
     ∙ ap (λ (k : ℕ). put a.s.now (2 * a.n) (replicate k 0)) both

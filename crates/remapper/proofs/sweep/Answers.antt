@@ -1,9 +1,5 @@
 -- The links, the numbers and what is left of the roster's row are one run of zeros, written from the back.
-use mathlib.Core.Logic.{inl}
-use mathlib.Core.Path.{◌≡◌, ◌∙◌, ap}
-use Prim.Native.Nat.{ℕ, ◌+◌, ◌*◌, ◌-◌}
-use native.Mathlib.Omega.{arith}
-use lib.ListN.{replicate}
+use Rattle.std.proofs.Common.{inl, ◌≡◌, ◌∙◌, ap, ℕ, ◌+◌, ◌*◌, ◌-◌, arith, replicate}
 use Rattle.model.specs.Bytes.{put}
 use Rattle.remapper.proofs.Clears.{sparse_put, zeros-before}
 use Rattle.remapper.proofs.sweep.Goals as goal
@@ -25,6 +21,6 @@ returns c =
     (c.clear_links.ensures ∙ ap (λ (x : ℕ). put a.s.now x (replicate (2 * a.n) 0)) second) c.clear_row.ensures in
     let behind : a.n ≡ a.kept + (a.n - a.kept) = omega (arith, few) in
     let all : (a.n - a.kept) + (a.n + 2 * a.n) ≡ 4 * a.n - a.kept = omega (arith, few) in
-    (zeros-before a.s.now c.clear_row.new.s _ a.kept (a.n - a.kept) (a.n + 2 * a.n) (omega (arith, few, pre.1))
-    (r.0 ∙ ap (λ (x : ℕ). put a.s.now x (replicate (a.n + 2 * a.n) 0)) behind) c.clear.ensures).0
+    zeros-before a.s.now c.clear_row.new.s _ a.kept (a.n - a.kept) (a.n + 2 * a.n) (omega (arith, few, pre.1))
+    (r ∙ ap (λ (x : ℕ). put a.s.now x (replicate (a.n + 2 * a.n) 0)) behind) c.clear.ensures
     ∙ ap (λ (k : ℕ). put a.s.now a.kept (replicate k 0)) all

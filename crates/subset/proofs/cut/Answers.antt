@@ -1,16 +1,16 @@
 -- The walk refuses, or its roster is cut.
-use native.Mathlib.Omega.{arith}
+use Rattle.std.proofs.Common.{arith}
+use Rattle.std.proofs.lemmas.Result.{err_from_is_err_and}
 use Rattle.model.specs.Glyf.{width_of}
 use Rattle.places.specs.Places.{contents}
 use Rattle.plan.specs.Sources.{font_of}
-use Rattle.subset.proofs.Cutting.{offsets, walk_refused, walk-closes, walk_kept, walk-sweepable, walk-added, from_walk}
 use Rattle.closure.proofs.Final.{glyphs-small}
-use Rattle.plan.proofs.Planning.{roster_stays}
+use Rattle.subset.proofs.Cutting.{offsets, walk_refused, walk_kept, walk-added, from_walk}
 use Rattle.subset.proofs.cut.Goals as goal
 
-pub close_over-c-requires : goal.close_over-c-requires
+pub close_over-requires : goal.close_over-requires
 unfolding contents
-close_over-c-requires c =
+close_over-requires c =
     let a = c.args in
     let o = c.requires.0 in
     (omega (arith, o.number, glyphs-small (width_of (font_of a.font.now a.s).head) (font_of a.font.now a.s).loca), c.requires.1, offsets a.font.now a.s o _ c.table.ensures)
@@ -20,37 +20,23 @@ unfolding contents
 rewrite-requires c =
     let a = c.args in
     let o = c.requires.0 in
-    let v = c.close_over-c.ensures in
-    let z = c.close_over-c.new.scratch in
-    let same = c.close_over-c.auto.scratch in
-    let l = c.table.ensures in
-    let g = c.table-2.ensures in (
+    let v = c.in_ok-walk.ensures in (
       o,
-      walk_kept a.font.now a.s a.ids.now a.scratch.now z o c.requires.1 same _ _ l g _ v c.in-Kept.kept c.in-Kept.even c.in-Kept.raw c.in-Kept.is,
-      walk-added a.font.now a.s a.ids.now a.scratch.now z o c.requires.1 same _ _ l g _ v c.in-Kept.kept c.in-Kept.even c.in-Kept.raw c.in-Kept.is,
+      walk_kept a.font.now a.s a.ids.now a.scratch.now _ o c.requires.1 c.close_over.auto.scratch _ _ c.table.ensures c.table-2.ensures _ v,
+      walk-added a.font.now a.s a.ids.now a.scratch.now _ o c.requires.1 c.close_over.auto.scratch _ _ c.table.ensures c.table-2.ensures _ v,
     )
 
-pub returns-in-No : goal.returns-in-No
+pub returns-in_err-walk : goal.returns-in_err-walk
 unfolding contents
-returns-in-No c =
+returns-in_err-walk c =
     let a = c.args in
-    let o = c.requires.0 in
-    let v = c.close_over-c.ensures in
-    let z = c.close_over-c.new.scratch in
-    let same = c.close_over-c.auto.scratch in
-    let l = c.table.ensures in
-    let g = c.table-2.ensures in
-    walk_refused a.font.now a.s a.ids.now a.scratch.now z o c.requires.1 same _ _ l g _ v c.in-No.k c.in-No.is a.out.now
+    let e = err_from_is_err_and c.from_residual.result c.from_residual.ensures.1 in
+    rw (e.1, e.2)
+    (walk_refused a.font.now a.s a.ids.now a.scratch.now _ c.requires.0 c.requires.1 c.close_over.auto.scratch _ _ c.table.ensures c.table-2.ensures _ c.in_err-walk.ensures a.out.now)
 
-pub returns-in-Kept : goal.returns-in-Kept
+pub returns : goal.returns
 unfolding contents
-returns-in-Kept c =
+returns c =
     let a = c.args in
-    let o = c.requires.0 in
-    let v = c.close_over-c.ensures in
-    let z = c.close_over-c.new.scratch in
-    let same = c.close_over-c.auto.scratch in
-    let l = c.table.ensures in
-    let g = c.table-2.ensures in
-    let w = walk_kept a.font.now a.s a.ids.now a.scratch.now z o c.requires.1 same _ _ l g _ v c.in-Kept.kept c.in-Kept.even c.in-Kept.raw c.in-Kept.is in
-    from_walk (font_of a.font.now a.s) a.s.n a.ids.now c.in-Kept.kept a.scratch.now z _ a.out.now _ _ (walk-closes a.font.now a.s a.ids.now a.scratch.now z o c.requires.1 same _ _ l g _ v c.in-Kept.kept c.in-Kept.even c.in-Kept.raw c.in-Kept.is) w.inside (roster_stays a.font.now a.s z _ c.in-Kept.kept o w c.rewrite.ensures.leaves) same v.past (walk-sweepable a.font.now a.s a.ids.now a.scratch.now z o c.requires.1 same _ _ l g _ v c.in-Kept.kept c.in-Kept.even c.in-Kept.raw c.in-Kept.is) c.rewrite.ensures
+    from_walk a.font.now a.s a.ids.now a.scratch.now _ c.requires.0 c.requires.1 c.close_over.auto.scratch _ _ c.table.ensures c.table-2.ensures _ c.in_ok-walk.ensures
+    _ _ _ _ c.rewrite.ensures

@@ -3,16 +3,16 @@ use mathlib.Core.Path.{sym, ap, ◌∙◌}
 use mathlib.Core.List.{List}
 use Prim.Native.Nat.{ℕ}
 use lib.ListN.{length}
-use borrow.Author.Tests.{eqb-false}
+use borrow.Author.Tests.{eqb-true, eqb-false}
 use Rattle.model.specs.Bytes.{word32}
 use Rattle.places.specs.Places.{content_at}
 use Rattle.subset.proofs.Whole.{post-unnamed, nothing-named}
 use Rattle.subset.proofs.named.Goals as goal
 
-pub returns-then-post-eq0 : goal.returns-then-post-eq0
-returns-then-post-eq0 c _ =
+pub returns-then-is_empty : goal.returns-then-is_empty
+returns-then-is_empty c _ =
     let a = c.args in
-    post-unnamed a.font.now a.t (nothing-named (content_at a.font.now a.t 9) (sym (ap length c.table-post.ensures) ∙ c.if-post-eq0.true))
+    post-unnamed a.font.now a.t (nothing-named (content_at a.font.now a.t 9) (sym (ap length c.table-post.ensures) ∙ eqb-true _ _ (sym c.is_empty.ensures ∙ c.if-is_empty.true)))
 
 pub returns : goal.returns
 returns c e =

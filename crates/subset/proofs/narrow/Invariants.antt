@@ -1,10 +1,7 @@
--- The first k lengths fit.
-use Prim.Native.Nat.{ℕ, ◌≤◌, ◌<◌, ◌-◌}
+-- The lengths looked at fit.
+use Rattle.std.proofs.Common.{ℕ, ◌≤◌, ◌<◌}
 use Rattle.places.specs.Places.{place_at}
 use Rattle.subset.proofs.narrow.Given as goal
 
-abbrev pub invariant-loop-k : goal.invariant-loop-k
-invariant-loop-k l = (l.k ≤ 11) × ((j : ℕ) → j < l.k → (place_at l.sized j).length ≤ 4294967295)
-
-abbrev pub decreases-loop-k : goal.decreases-loop-k
-decreases-loop-k l = 11 - l.k
+abbrev pub invariant-loop-p : goal.invariant-loop-p
+invariant-loop-p l = (j : ℕ) → j < l.p-index → (place_at l.fn.sized j).length ≤ 4294967295

@@ -1,7 +1,6 @@
-use Rattle.lines.proofs.Rows.{puts_both}
+use Rattle.std.proofs.Common.{length, arith}
 use Rattle.lines.specs.Print.{head_line, rows, kept_lines}
-use lib.ListN.{length}
-use native.Mathlib.Omega.{arith}
+use Rattle.lines.proofs.Rows.{puts_both}
 use Rattle.lines.proofs.print.kept.Goals as goal
 
 pub returns-clause-puts : goal.returns-clause-puts
@@ -10,5 +9,4 @@ returns-clause-puts c =
     let a = c.args in
     let p = c.put_head-at in
     let q = c.put_rows in
-    let w = puts_both a.out.now p.new.out q.new.out (head_line (length a.roster.now) a.size) (rows 0 a.roster.now) 0 p.result q.result (omega arith) p.ensures.0 q.ensures.0 in
-    w
+    puts_both a.out.now p.new.out q.new.out (head_line (length a.roster.now) a.size) (rows 0 a.roster.now) 0 p.result q.result (omega arith) p.ensures.puts q.ensures.puts

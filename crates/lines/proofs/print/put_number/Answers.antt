@@ -1,18 +1,12 @@
-use Prim.Native.Nat.{◌+◌}
-use Rattle.lines.specs.Print.{decimal}
+use Rattle.std.proofs.Common.{◌≡◌, ◌+◌, [], ◌∷◌, length, refl, ap, ◌∙◌, arith}
 use Rattle.model.specs.Bytes.{put}
-use lib.ListN.{length}
-use mathlib.Core.List.{[], ◌∷◌}
+use Rattle.lines.specs.Print.{decimal}
 use Rattle.lines.proofs.Rows.{put_byte, puts_both}
 use Rattle.lines.proofs.Width.{decimal_of, decimal-fits}
-use lib.ListN.{length}
-use native.Mathlib.Omega.{arith}
-use mathlib.Core.Path.{◌≡◌, refl, ap, ◌∙◌}
 use Rattle.lines.proofs.print.put_number.Goals as goal
 
--- src/print.rt:61:1
-pub returns : goal.returns
-returns c =
+pub returns-clause-puts : goal.returns-clause-puts
+returns-clause-puts c =
     let a = c.args in
     let d = c.decimal-k in
     let p = c.put_bytes-behind in

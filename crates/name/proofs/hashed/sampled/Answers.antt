@@ -8,10 +8,6 @@ pub returns-then-buckets-ge4096 : goal.returns-then-buckets-ge4096
 unfolding sampled_of
 returns-then-buckets-ge4096 c = (rw (le-leb _ _ c.if-buckets-ge4096.true) refl, omega arith)
 
-pub returns-then-size-le8 : goal.returns-then-size-le8
+pub returns-else-buckets-ge4096 : goal.returns-else-buckets-ge4096
 unfolding sampled_of
-returns-then-size-le8 c = (rw (lt-leb _ _ c.if-buckets-ge4096.false, le-leb _ _ c.if-size-le8.true) refl, omega arith)
-
-pub returns : goal.returns
-unfolding sampled_of
-returns c = (rw (lt-leb _ _ c.if-buckets-ge4096.false, lt-leb _ _ c.if-size-le8.false) refl, omega arith)
+returns-else-buckets-ge4096 c = (rw (lt-leb _ _ c.if-buckets-ge4096.false) c.min.ensures, omega arith)

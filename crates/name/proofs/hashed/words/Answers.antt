@@ -1,15 +1,11 @@
-use Rattle.std.proofs.Common.{refl, arith, rules}
+use Rattle.std.proofs.Common.{refl, add-one}
 use Rattle.name.specs.Hashed.{words_of}
-use Rattle.name.proofs.Links.{words-next}
 use Rattle.name.proofs.hashed.words.Goals as goal
 
-pub loop-k-init : goal.loop-k-init
+pub loop-word-init : goal.loop-word-init
 unfolding words_of
-loop-k-init c = (refl, search rules, refl)
+loop-word-init c = refl
 
-pub loop-k-preserved : goal.loop-k-preserved
-loop-k-preserved c =
-    let r = c in
-    let l = c.loop-k in
-    let t = words-next r.args.s.now l.k l.invariant.0 in
-    (omega (arith, l.invariant.0), omega arith, cc)
+pub loop-word-preserved : goal.loop-word-preserved
+unfolding words_of
+loop-word-preserved c = rw (add-one c.loop-word.word) cc

@@ -8,6 +8,6 @@ pub returns : goal.returns
 returns c =
     let a = c.args in
     let p = c.requires.chain in
-    let e = c.wide-size.ensures.0 in
+    let e = c.from-size.ensures in
     step-more a.post.now a.room.now a.base a.at a.l p (omega arith) (omega arith) _ refl (omega arith)
     (λ i. rw e (step-name a.post.now a.room.now a.base a.at a.l p (omega arith) (omega arith) (omega arith) (omega arith) (omega arith)))

@@ -10,7 +10,7 @@ use Rattle.post.proofs.names.name_by_stride.Goals as goal
 pub returns-then-j-eq0 : goal.returns-then-j-eq0
 returns-then-j-eq0 c =
     let a = c.args in
-    rw (c.walk.ensures, c.wide-then-j-eq0.ensures.0, c.u16_at.ensures)
+    rw (c.walk.ensures, c.from-then-j-eq0.ensures, c.u16_at.ensures)
     (rw zero-add at (stands-walked a.post.now (34 + 2 * word16 a.post.now 32) 0 a.k (stands-first a.post.now)))
 
 pub returns : goal.returns

@@ -1,7 +1,7 @@
 -- The three cases of a size are the three returns.
 use native.Mathlib.Omega.{arith}
 use Rattle.post.proofs.Walk.{size-past, size-cut, size-whole}
-use mathlib.Core.Path.{sym}
+use mathlib.Core.Path.{sym, ◌∙◌}
 use Rattle.post.proofs.names.size_at.Goals as goal
 
 pub returns-then-post-p : goal.returns-then-post-p
@@ -17,4 +17,4 @@ returns-then-post-b c =
 pub returns : goal.returns
 returns c =
     let a = c.args in
-    sym (size-whole a.post.now a.p (omega arith) (omega arith))
+    c.from-l.ensures ∙ sym (size-whole a.post.now a.p (omega arith) (omega arith))
