@@ -37,6 +37,8 @@ struct Turn {
 
 // Offers a composite's components: how many bytes of it are kept, or None if a record is cut or has an id without a glyph.
 // "bytes after the last record are kept only if that record's flags hold 0x0100".
+// The walk along the records is that of outline's `kept_end` and glyf's `write_composite`, and what is done at each is another: an
+// iterator for all three would hand on places and flags that only one of them needs.
 #[tactic(auto, using(outline::proofs::Records::taken_low, outline::proofs::Records::taken_more))]
 fn offer_components(b: &[u8], s: &mut [u16], n: usize) -> Option<usize>
     requires { (n ≤ 65536) × Linked n s.old }

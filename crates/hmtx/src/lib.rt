@@ -95,7 +95,7 @@ fn write_pairs(hmtx: &[u8], c: usize, roster: &[u16], out: &mut [u8])
     }
 }
 
-// Their bearings alone.
+// Their bearings alone. No twin of `write_pairs`: a turn puts other bytes, at another step.
 fn write_bearings(hmtx: &[u8], c: usize, roster: &[u16], out: &mut [u8])
     requires room { Room hmtx.now c roster.now }
     requires roster_in_bounds { 2 * length roster.now ≤ length out.old }

@@ -12,6 +12,7 @@ use std::error::Error;
 use std::fmt;
 
 // What was read so far: whether all of it is good, how many ids are in their places, and the number of a line that has begun.
+// `good` is a flag beside these, and no Result around them, since a bad list keeps both, as `feed` promises.
 #[derive(Drop)]
 pub struct Reading {
     good: bool,

@@ -140,7 +140,7 @@ fn slot(k: usize, s: usize, last: usize) -> usize
     j.min(last)
 }
 
-// Place j of the room, its low half first.
+// Place j of the room, its low half first. (The library puts bytes together to a number, no halves of 16 bits.)
 #[tactic(auto, unfolding(crate::specs::Post::place_in))]
 pub fn place(room: &[u16], j: usize) -> usize
     requires { 2 * j + 1 < length room.now }

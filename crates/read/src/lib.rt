@@ -27,7 +27,7 @@ pub fn part(b: &[u8], at: usize, size: usize) -> &[u8]
     &b[at..end]
 }
 
-// The 16-bit number at a place.
+// The 16-bit number at a place. (A trait over this width and the next would be longer than both functions.)
 pub fn u16_at(b: &[u8], at: usize) -> u16
     requires { at + 2 ≤ length b.now }
     ensures { result ≡ word16 b.now at }

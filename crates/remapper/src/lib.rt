@@ -151,7 +151,7 @@ pub fn ask(s: &mut [u16], n: usize, q: usize, count: usize) -> Result<usize, Ref
     Ok(count + 1)
 }
 
-// So many zeros.
+// So many zeros. (As `write::zeros` for bytes: one function for both types would be no shorter than this line.)
 pub fn zeros(s: &mut [u16], at: usize, count: usize)
     requires { at + count ≤ length s.old }
     ensures { s.new ≡ put s.old at (replicate count 0) }

@@ -68,6 +68,7 @@ impl<'a> Cut<'a> {
     }
 
     // Table number k, at the start of out. "cvt, fpgm, prep: copied". head's adjustment stays zero until the file's sum is known.
+    // Ifs, and no match: the last arm of a match on numbers isn't told which came before it, and that a table is copied follows from that.
     fn write_table(&self, k: usize, out: &mut [u8])
         requires { Single k × Fits self.now k out.old }
         ensures { out.new ≡ over (new_body self.now k) out.old }

@@ -5,6 +5,7 @@
 ghost use Rattle.std.specs.Prelude.{◌≡◌, ◌+◌, ◌≤◌, length, replicate};
 ghost use Rattle.model.specs.Bytes.{be16, be32, put};
 
+// Two functions of one line for the two widths: a trait over the width would be longer than both.
 pub fn put_u16(out: &mut [u8], at: usize, half: u16)
     requires { at + 2 ≤ length out.old }
     ensures { out.new ≡ put out.old at (be16 half) }
