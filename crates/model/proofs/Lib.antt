@@ -15,6 +15,7 @@ pub mod Outlines
 pub mod Least
 pub mod Closure
 pub mod Puts
+pub mod Ranges
 pub mod Words
 pub mod Must
 pub mod Samples

@@ -47,7 +47,7 @@ fn rewrite(
     }
     let new = construct::lay_out(p.sized);
     let end = new.end;
-    let long = 4294967295 < end;
+    let long = LONGEST < end;
     if long {
         return Err(CutError::Refused(Refusal::Overflow));
     }

@@ -1,48 +1,46 @@
-use Rattle.std.proofs.Common.{ℕ, ◌+◌, ◌%◌, ◌^◌, ◌<◌, ap, arith}
-use Rattle.construct.proofs.Rows.{rowed_length, rowed_start, rowed_none, rowed-there, rowed_end, row_room}
+use Rattle.std.proofs.Common.{◌≡◌, ℕ, ◌+◌, ◌%◌, ◌^◌, ◌<◌, ◌≤◌, length, ap, arith}
+use Rattle.construct.proofs.Rows.{Rowed, rowed_length, rowed_start, rowed_none, rowed-there, rowed_end, row_room}
 use Rattle.construct.proofs.Readiness.{place-room}
 use Rattle.std.proofs.Common.{sym, subst, get_or}
-use Rattle.std.specs.Prelude.{Option, is_some}
+use Rattle.std.specs.Prelude.{Option, Some, None, is_some}
 use Rattle.std.specs.Option.{unwrap_or}
-use Rattle.model.specs.Bytes.{part, put}
+use Rattle.model.specs.Bytes.{Bytes, part, put}
 use Rattle.model.specs.File.{checksum, row}
 use Rattle.places.specs.declared.Place.{Place}
 use Rattle.places.specs.Places.{tag_words, missing}
-use Rattle.construct.specs.Construct.{Leaves}
+use Rattle.construct.specs.declared.Layout.{Layout}
+use Rattle.construct.specs.Construct.{Leaves, Ready}
 use Rattle.construct.proofs.write_rows.Goals as goal
 use Rattle.construct.proofs.write_rows.Goals.{in-Some, in_default}
 
 pub loop-k-init : goal.loop-k-init
 loop-k-init c = rowed_start c.args.new.tables c.args.out.now
 
+-- what a row and its table need, of a place that is there
+room_for : (new : Layout) (out₀ out : Bytes) (ready : Ready out₀ new) (sum at k : ℕ) (h : k < 11) (p : Place) → get_or new.tables.places k None ≡ Some p
+    → Rowed new.tables out₀ out sum at k → (at + 16 ≤ p.offset) × (p.offset + p.length ≤ length out) × (p.offset + p.length ≤ 4294967295)
+room_for new out₀ out ready sum at k h p is rowed =
+    let t = ap is_some is in
+    let o = ap (λ (q : Option Place). (unwrap_or q missing).offset) is in
+    let s = ap (λ (q : Option Place). (unwrap_or q missing).length) is in
+    let m = place-room new ready.placed k h t in
+    let n = rowed_length new out₀ ready out sum at k rowed in
+    let room = ready.room in
+    let small = ready.small in
+    let f = row_room new out₀ ready out sum at k h t rowed in
+    (omega arith, omega arith, omega arith)
+
 pub write_row-sum-requires : goal.write_row-sum-requires
 write_row-sum-requires c =
-    let a = c.args in
     let l = c.loop-k in
     let h : l.k < 11 = omega arith in
-    let t = ap is_some c.in-Some.is in
-    let o = ap (λ (q : Option Place). (unwrap_or q missing).offset) c.in-Some.is in
-    let s = ap (λ (q : Option Place). (unwrap_or q missing).length) c.in-Some.is in
-    let r = c.requires in
-    let m = place-room a.new r.placed l.k h t in
-    let n = rowed_length a.new a.out.now r l.out l.sum l.at l.k l.invariant in
-    let room = r.room in
-    let small = r.small in
-    let f = row_room a.new a.out.now r l.out l.sum l.at l.k h t l.invariant in
-    (h, omega arith, omega arith, omega arith)
+    let f = room_for c.args.new c.args.out.now l.out c.requires l.sum l.at l.k h _ c.in-Some.is l.invariant in
+    (h, f.0, f.1, f.2)
 
 pub overflow_add-at : goal.overflow_add-at
 overflow_add-at c =
-    let a = c.args in
     let l = c.loop-k in
-    let h : l.k < 11 = omega arith in
-    let t = ap is_some c.in-Some.is in
-    let o = ap (λ (q : Option Place). (unwrap_or q missing).offset) c.in-Some.is in
-    let s = ap (λ (q : Option Place). (unwrap_or q missing).length) c.in-Some.is in
-    let r = c.requires in
-    let m = place-room a.new r.placed l.k h t in
-    let n = row_room a.new a.out.now r l.out l.sum l.at l.k h t l.invariant in
-    let small = r.small in
+    let r = room_for c.args.new c.args.out.now l.out c.requires l.sum l.at l.k (omega arith) _ c.in-Some.is l.invariant in
     omega arith
 
 pub loop-k-preserved : goal.loop-k-preserved

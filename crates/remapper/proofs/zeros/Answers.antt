@@ -1,4 +1,4 @@
-use Rattle.write.proofs.Placing.{filled}
+use Rattle.model.proofs.Ranges.{filled}
 use Rattle.remapper.proofs.zeros.Goals as goal
 
 pub returns : goal.returns

@@ -1,5 +1,5 @@
 use Rattle.std.proofs.Common.{length, refl}
-use Rattle.write.proofs.Placing.{placed}
+use Rattle.model.proofs.Ranges.{placed}
 use Rattle.write.proofs.copy.Goals as goal
 
 pub returns : goal.returns
