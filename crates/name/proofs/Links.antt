@@ -1,14 +1,21 @@
 -- Buckets and links: a first use more is the last of its bucket, and a walk along the links passes every first use of the bucket.
-use Rattle.std.proofs.Common.{◌≡◌, ℕ, ◌+◌, ◌*◌, ◌/◌, ◌<◌, ◌≤◌, eqb, ltb, List, length, get_or, set, sym, ap, ◌∙◌, mul-le-mul_right, arith, length-set, get_or-set_other, get_or-set_same, ltb-false, ltb-true, eqb-true}
+use Rattle.std.proofs.Common.{◌≡◌, ℕ, suc, ◌+◌, ◌*◌, ◌/◌, ◌%◌, ◌^◌, ◌<◌, ◌≤◌, eqb, ltb, List, length, get_or, set, sym, ap, ◌∙◌, mul-le-mul_right, arith, length-set, get_or-set_other, get_or-set_same, ltb-false, ltb-true, eqb-true}
 use borrow.Author.Tests.{eqb-false}
 use Rattle.model.specs.Bytes.{Bytes}
-use Rattle.name.specs.Hashed.{bucket_of, Latest}
+use Rattle.name.specs.Hashed.{eight_at, mixed_of, words_of, bucket_of, Latest}
 use Rattle.name.specs.Rows.{string_at, key_at, Apart, Linked, Walkable}
 use Rattle.name.proofs.Rows.{by}
 
 -- a share of the buckets
 pub share-below : (x n : ℕ) → x < 4294967296 → 0 < n → x * n / 4294967296 < n
 share-below x n h g = omega (arith, mul-le-mul_right {m = x} {n = 4294967295} n (omega arith))
+
+pub words-next : (s : Bytes) (k : ℕ) → k % 8 ≡ 0 → (words_of s (k / 8) + mixed_of (eight_at s k) k) % 2 ^ 64 ≡ words_of s ((k + 8) / 8)
+unfolding words_of
+words-next s k h =
+    let e : (k + 8) / 8 ≡ suc (k / 8) = omega arith in
+    let f : 8 * (k / 8) ≡ k = omega arith in
+    rw (e, f)
 
 -- a number more, whose key is h: it is the last with that key, and others keep theirs
 module _ (key more : ℕ → ℕ) (used h : ℕ) (old : (j : ℕ) → j < used → more j ≡ key j) (new : more used ≡ h) where

@@ -1,11 +1,9 @@
 -- The order of the first uses by their strings: a comparison leaves half of the places, a string that belongs between two places stands at none, and a place more keeps the order.
-use Rattle.std.proofs.Common.{◌≡◌, ℕ, zero, suc, ◌+◌, ◌-◌, ◌*◌, ◌/◌, ◌<◌, ◌≤◌, eqb, ltb, Bool, List, length, get_or, take, drop, sym, refl, ap, ◌∙◌, add-zero, arith, length-drop, length-take, get_or-drop, get_or-take, ext_get_or, ltb-false, ltb-true, eqb-true}
+use Rattle.std.proofs.Common.{◌≡◌, ℕ, zero, suc, ◌+◌, ◌-◌, ◌*◌, ◌/◌, ◌<◌, ◌≤◌, eqb, ltb, List, length, get_or, drop, sym, refl, ap, ◌∙◌, add-zero, arith, length-drop, length-take, get_or-drop, get_or-take, ext_get_or, ltb-false, ltb-true, eqb-true}
 use borrow.Author.Tests.{eqb-false}
 use mathlib.Core.Logic.{◌⊎◌, inl, inr}
-use lib.Pointwise.{pointwise}
-use Rattle.std.specs.Cmp.Lexicographic.{same_text, other_text}
 use Rattle.model.specs.Bytes.{Bytes}
-use Rattle.name.specs.Rows.{string_start, string_length, string_at, key, ordered_at, Before, Standing, Ordered, Between, Inserted, Alike, WordAlike, Compared, Inside, Searchable, Sought, Sortable}
+use Rattle.name.specs.Rows.{string_start, string_length, string_at, key, ordered_at, Before, Standing, Ordered, Between, Inserted, Alike, WordAlike, Inside, Searchable, Sought, Sortable}
 use Rattle.name.specs.Hashed.{eight_at}
 use Rattle.std.specs.Prelude.{Result, Ok, Err}
 use Rattle.model.proofs.Res.{true_false}
@@ -105,26 +103,6 @@ module _ (b : Bytes) (at start size : ℕ) where
             let q : start + i ≡ start + k + (i - k) = omega arith in
             rw (p, q) (eight-same b byte (at + k) (start + k) (sym ex ∙ eqb-true x y e ∙ ey) (i - k) (omega arith));
         differ = λ e. record { equal = λ d. true_false (sym d); differ = λ d a. eqb-false x y e (ex ∙ eight-alike a k h ∙ sym ey) };
-      }
-
--- few bytes are compared as slices
-module _ (b : Bytes) (at start size : ℕ) (ha : at + size ≤ length b) (hs : start + size ≤ length b) where
-  slice-byte : (i k : ℕ) → k < size → get_or (take size (drop i b)) k 0 ≡ get_or b (i + k) 0
-  slice-byte i k h = get_or-take size (drop i b) k 0 h ∙ get_or-drop i b k 0
-
-  slice-length : (i : ℕ) → i + size ≤ length b → length (take size (drop i b)) ≡ size
-  slice-length i h = simp (length-take, length-drop) (omega arith)
-
-  pub slices_compared : (r : Bool) → r ≡ pointwise eqb (take (at + size - at) (drop at b)) (take (start + size - start) (drop start b)) → Compared b at start size r
-  slices_compared r e =
-      let p : at + size - at ≡ size = omega arith in
-      let q : start + size - start ≡ size = omega arith in
-      let f : r ≡ pointwise eqb (take size (drop at b)) (take size (drop start b)) = rw (p, q) at e in
-      record {
-        equal = λ g. record { within = omega arith; same = λ i l. sym (slice-byte at i l) ∙ ap (λ (xs : Bytes). get_or xs i 0) (same_text _ _ (sym g ∙ f)) ∙ slice-byte start i l };
-        differ = λ g a. other_text _ _ (sym g ∙ f) (ext_get_or 0 _ _ (slice-length at ha ∙ sym (slice-length start hs)) (λ m l.
-            let k : m < size = omega (arith, slice-length at ha) in
-            slice-byte at m k ∙ a.same m k ∙ sym (slice-byte start m k)));
       }
 
 -- the strings of two rows: shorter ones come first, then the first byte that differs decides

@@ -253,6 +253,9 @@ fn find_linked(
         }
         next = links[number] as usize;
     }
+    if next == 0 {
+        return Link::New;
+    }
     Link::Lost // a dozen in vain
 }
 
@@ -271,12 +274,25 @@ fn same(name: &[u8], at: usize, start: usize, size: usize) -> bool
     ensures { Compared name.now at start size result }
 {
     if size < 8 {
-        return name[at..at + size] == name[start..start + size];
+        return same_short(name, at, start, size);
     }
     if alike(name, at, start, size) + 8 <= size {
         return false;
     }
     word_alike(name, at, start, size, size - 8)
+}
+
+// The same byte by byte. No `==` of slices: a wrong comparison in its place would be refused for its form alone.
+fn same_short(name: &[u8], at: usize, start: usize, size: usize) -> bool
+    requires { (at + size ≤ length name.now) × (start + size ≤ length name.now) }
+    ensures { Compared name.now at start size result }
+{
+    for k in 0..size {
+        if name[at + k] != name[start + k] {
+            return false;
+        }
+    }
+    true
 }
 
 // The numbers of the first uses in the order of their strings, one more at a time.
