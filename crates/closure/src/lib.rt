@@ -179,8 +179,6 @@ fn run(
 }
 
 // "Then the requests in list order, first appearances only." How many are numbered, glyph 0 among them.
-// Inlined into the whole call, the loop had no registers left, and a long list of ids took 1.4 times as long.
-#[inline(never)]
 fn number_all(ids: &[u16], s: &mut [u16], n: usize) -> Result<usize, Refusal>
     requires { (n ≤ 65536) × Walking n s.old (0 ∷ []) [] }
     ensures { Numbered n ids.now s.old s.new result }
@@ -193,6 +191,8 @@ fn number_all(ids: &[u16], s: &mut [u16], n: usize) -> Result<usize, Refusal>
 }
 
 // The walk of document 01. A refusal leaves the scratch's first 4n places as they are: the call zeroes them, once for all refusals.
+// Inlined into the whole call, `number_all` had no registers left for its loop, and a long list of ids took 1.4 times as long.
+#[inline(never)]
 pub fn close_over(
     loca: &[u8],
     glyf: &[u8],
